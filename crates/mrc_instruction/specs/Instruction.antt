@@ -1,0 +1,8 @@
+-- "`Instruction::new`: take no repeat."
+use Rattle.mrc_instruction.specs.declared.operation.Operation.{Operation}
+use Rattle.mrc_instruction.specs.declared.instruction.OperandSet.{OperandSet}
+use Rattle.mrc_instruction.specs.declared.instruction.Repeated.{Repeated}
+use Rattle.mrc_instruction.specs.declared.instruction.Instruction.{Instruction}
+
+abbrev pub plain : Operation → OperandSet → Instruction
+plain operation operands = record { operation = operation; operands = operands; repeat = Repeated.None }
