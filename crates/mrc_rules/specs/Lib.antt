@@ -1,0 +1,5 @@
+pub mod Answer
+pub mod Forms
+pub mod Table
+pub mod Prefixes
+pub mod Decode

@@ -1,0 +1,73 @@
+-- "Prefixes": the bytes, the whole run at the front, its first override and first repeat, the tail behind it, and what an override does.
+use Prim.Native.Nat.{ℕ, _/_, _%_}
+use mathlib.Core.Bool.{Bool, cond, _||_}
+use mathlib.Core.List.{List, [], _∷_}
+use mathlib.Core.Option.{Option, none, some}
+use lib.Dec.{eqb}
+use Rattle.mrc_instruction.specs.declared.errors.Refusal.{Refusal}
+use Rattle.mrc_instruction.specs.declared.register.Segment.{Segment}
+use Rattle.mrc_instruction.specs.declared.operand.Operand.{Operand}
+use Rattle.mrc_instruction.specs.declared.instruction.OperandSet.{OperandSet}
+use Rattle.mrc_instruction.specs.declared.instruction.Repeat.{Repeat}
+use Rattle.mrc_instruction.specs.declared.instruction.Repeated.{Repeated}
+use Rattle.mrc_instruction.specs.declared.instruction.Instruction.{Instruction}
+use Rattle.mrc_instruction.specs.Register.{segmentOf}
+use Rattle.mrc_rules.specs.Forms.{Tail}
+
+-- "Segment overrides are 26, 2E, 36, 3E for ES, CS, SS, DS."
+abbrev pub isOverride : ℕ → Bool
+isOverride b = eqb b 0x26 || eqb b 0x2E || eqb b 0x36 || eqb b 0x3E
+
+abbrev pub overrideSegment : ℕ → Segment
+overrideSegment b = segmentOf (b / 8 % 4)
+
+-- "Repeat prefixes are F2 (NotEqual) and F3 (Equal)."
+abbrev pub isRepeat : ℕ → Bool
+isRepeat b = eqb b 0xF2 || eqb b 0xF3
+
+abbrev pub repeatOf : Option ℕ → Repeated
+repeatOf none = Repeated.None
+repeatOf (some b) = cond (eqb b 0xF2) (Repeated.Some Repeat.NotEqual) (Repeated.Some Repeat.Equal)
+
+abbrev pub isPrefix : ℕ → Bool
+isPrefix b = isOverride b || isRepeat b
+
+-- the whole run of prefix bytes at the front, and "The tail is what follows the prefixes."
+abbrev pub runOf : List ℕ → List ℕ
+runOf [] = []
+runOf (b ∷ l) = cond (isPrefix b) (b ∷ runOf l) []
+
+abbrev pub tailOf : List ℕ → List ℕ
+tailOf [] = []
+tailOf (b ∷ l) = cond (isPrefix b) (tailOf l) (b ∷ l)
+
+-- "The first prefix of its kind wins."
+abbrev pub first : (ℕ → Bool) → List ℕ → Option ℕ
+first kind [] = none
+first kind (b ∷ l) = cond (kind b) (some b) (first kind l)
+
+-- "An override replaces the segment of each Direct and Indirect operand. Other operands stay."
+abbrev pub inSegment : Segment → Operand → Operand
+inSegment s (Operand.Direct was offset size) = Operand.Direct s offset size
+inSegment s (Operand.Indirect was mode displacement size) = Operand.Indirect s mode displacement size
+inSegment s (Operand.Register r) = Operand.Register r
+inSegment s (Operand.Segment r) = Operand.Segment r
+inSegment s (Operand.Immediate i) = Operand.Immediate i
+inSegment s (Operand.Displacement d) = Operand.Displacement d
+inSegment s (Operand.SegmentAndOffset a) = Operand.SegmentAndOffset a
+
+-- the reading or the refusal, the counts aside
+pub data Result : Type 0 where
+  reads : Instruction → Result
+  refuses : Refusal → Result
+
+-- the tail's instruction with a repeat and operands
+abbrev pub made : Tail → Repeated → OperandSet → Instruction
+made i repeat operands = record { operation = i .operation; operands = operands; repeat = repeat }
+
+-- the tail's instruction, which has these operands, under the override o: "the answer is 9 with the first override if the tail .. has no operands"
+abbrev pub under : ℕ → Repeated → Tail → OperandSet → Result
+under o r i OperandSet.None = refuses (Refusal.InvalidPrefix o)
+under o r i (OperandSet.Destination d) = reads (made i r (OperandSet.Destination (inSegment (overrideSegment o) d)))
+under o r i (OperandSet.DestinationAndSource d s) =
+    reads (made i r (OperandSet.DestinationAndSource (inSegment (overrideSegment o) d) (inSegment (overrideSegment o) s)))
