@@ -25,7 +25,7 @@ module _ {A : Type 0} where
   more-after n (got a k) = ap (got a) (sym (suc-add n k))
   more-after n (stopped e k) = ap (stopped e) (sym (suc-add n k))
 
-  taken-more : (o : Outcome A) → takenBy (more o) ≡ suc (takenBy o)
+  pub taken-more : (o : Outcome A) → takenBy (more o) ≡ suc (takenBy o)
   taken-more (got a n) = refl
   taken-more (stopped e n) = refl
 

@@ -3,3 +3,4 @@ pub mod Forms
 pub mod Table
 pub mod Prefixes
 pub mod Decode
+pub mod Readings
