@@ -6,3 +6,5 @@ pub mod Counting
 pub mod Length
 pub mod PrefixLaw
 pub mod Readings
+pub mod Along
+pub mod Operands

@@ -3,4 +3,5 @@ pub mod Forms
 pub mod Table
 pub mod Prefixes
 pub mod Decode
+pub mod Operands
 pub mod Readings
