@@ -17,17 +17,13 @@ use Rattle.mrc_rules.specs.declared.Answer.{Answer}
 use Rattle.mrc_rules.specs.Answer.{taken, prefixes}
 use Rattle.mrc_rules.specs.Prefixes.{runOf, tailOf, first, isOverride, isRepeat, Result, reads, refuses}
 use Rattle.mrc_rules.specs.Decode.{Rules, answer, tail, resultOf, together, decodeBy, decodeAtBy}
+use Rattle.mrc_rules.specs.Striking.{AllPrefix, NoPrefix, result}
 use Rattle.mrc_rules.proofs.Trees.{Got}
-use Rattle.mrc_rules.proofs.Runs.{AllPrefix, NoPrefix, run-all, tail-none, run-again, tail-again}
+use Rattle.mrc_rules.proofs.Runs.{run-all, tail-none, run-again, tail-again}
 
 abbrev pub Success : Answer → Type 0
 Success (Answer.Decoded i n p) = Unit {0}
 Success (Answer.Refused e n p) = ⊥
-
--- the reading or refusal, the counts aside
-abbrev pub result : Answer → Result
-result (Answer.Decoded i n p) = reads i
-result (Answer.Refused e n p) = refuses e
 
 pub taken-answer : (x : Result) (n p : ℕ) → taken (answer x n p) ≡ n
 taken-answer (reads i) n p = refl

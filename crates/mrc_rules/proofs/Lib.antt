@@ -7,4 +7,9 @@ pub mod Length
 pub mod PrefixLaw
 pub mod Readings
 pub mod Along
+pub mod Places
+pub mod Rows
 pub mod Operands
+pub mod Order
+pub mod Possible
+pub mod Main

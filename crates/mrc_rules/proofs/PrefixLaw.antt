@@ -25,18 +25,9 @@ use Rattle.mrc_rules.specs.declared.Answer.{Answer}
 use Rattle.mrc_rules.specs.Prefixes.{first, isOverride, isRepeat, repeatOf, Result, reads, refuses}
 use Rattle.mrc_rules.specs.Table.{rows, rowOf}
 use Rattle.mrc_rules.specs.Decode.{Rules, answer, tail, resultOf, together, decodeBy, decodeAtBy, decodeAt, rules}
-use Rattle.mrc_rules.proofs.Runs.{AllPrefix, NoPrefix}
-use Rattle.mrc_rules.proofs.Answers.{result, result-answer, decode-is, at-front}
-use Rattle.mrc_rules.proofs.Strike.{remains, listed, Is, first-is, Each, Kept, kept, kept-turned, firsts-left, length-remains, each, all, only, repeat-cases}
-
--- what remains of a run, in either order
-abbrev pub Left : List ℕ → List ℕ → Type 0
-Left run left = (left ≡ remains run) ⊎ (left ≡ reverse (remains run))
-
--- both counts are n more
-abbrev pub raised : ℕ → Answer → Answer
-raised n (Answer.Decoded i t p) = Answer.Decoded i (t + n) (p + n)
-raised n (Answer.Refused e t p) = Answer.Refused e (t + n) (p + n)
+use Rattle.mrc_rules.specs.Striking.{AllPrefix, NoPrefix, remains, Same, Left, raised, result}
+use Rattle.mrc_rules.proofs.Answers.{result-answer, decode-is, at-front}
+use Rattle.mrc_rules.proofs.Strike.{listed, Is, first-is, Each, Kept, kept, kept-turned, firsts-left, length-remains, each, all, only, repeat-cases}
 
 -- what remains is the two firsts, in one order or the other; so are they turned
 reverse-two : (o r : Option ℕ) → reverse (listed o ++ listed r) ≡ listed r ++ listed o
@@ -110,10 +101,6 @@ module _ (R : Rules) where
       at-front R b before (run ++ rest)
       ∙ prefixes-strike b run left rest a n h k
       ∙ ap (raised (length run - length left)) (sym (at-front R b before (left ++ rest)))
-
--- The second half: NOP (90) tells overrides apart, INC AX (40) repeats.
-abbrev pub Same : List ℕ → List ℕ → Type 0
-Same l l′ = (l ≡ l′) ⊎ (l ≡ reverse l′)
 
 -- the override that a refusal names, the repeat that a reading has
 abbrev overrideIn : Result → Option ℕ

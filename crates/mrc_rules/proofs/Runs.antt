@@ -7,16 +7,7 @@ use mathlib.Core.List.{List, [], _∷_, _++_}
 use Prim.Native.Nat.{ℕ, zero, suc, _≤_, _<_}
 use lib.ListN.{take, length}
 use Rattle.mrc_rules.specs.Prefixes.{isPrefix, runOf, tailOf}
-
--- prefixes only
-abbrev pub AllPrefix : List ℕ → Type 0
-AllPrefix [] = Unit {0}
-AllPrefix (b ∷ l) = (isPrefix b ≡ true) × AllPrefix l
-
--- no prefix at the front
-abbrev pub NoPrefix : List ℕ → Type 0
-NoPrefix [] = Unit {0}
-NoPrefix (b ∷ l) = isPrefix b ≡ false
+use Rattle.mrc_rules.specs.Striking.{AllPrefix, NoPrefix}
 
 pub run-all : (l : List ℕ) → AllPrefix (runOf l)
 run-all [] = tt

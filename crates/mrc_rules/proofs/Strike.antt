@@ -12,20 +12,7 @@ use lib.ListN.{length}
 use lib.Dec.{eqb}
 use borrow.Author.Tests.{eqb-true}
 use Rattle.mrc_rules.specs.Prefixes.{first, isOverride, isRepeat, isPrefix}
-use Rattle.mrc_rules.proofs.Runs.{AllPrefix}
-
--- strike every byte of a kind; every one but the first
-abbrev pub struck : (ℕ → Bool) → List ℕ → List ℕ
-struck kind [] = []
-struck kind (b ∷ l) = cond (kind b) (struck kind l) (b ∷ struck kind l)
-
-abbrev pub firstOnly : (ℕ → Bool) → List ℕ → List ℕ
-firstOnly kind [] = []
-firstOnly kind (b ∷ l) = b ∷ cond (kind b) (struck kind l) (firstOnly kind l)
-
--- what remains of a run
-abbrev pub remains : List ℕ → List ℕ
-remains run = firstOnly isRepeat (firstOnly isOverride run)
+use Rattle.mrc_rules.specs.Striking.{AllPrefix, struck, firstOnly, remains}
 
 -- the prefixes one by one
 or-true : (x y : Bool) → x || y ≡ true → (x ≡ true) ⊎ (y ≡ true)

@@ -3,5 +3,7 @@ pub mod Forms
 pub mod Table
 pub mod Prefixes
 pub mod Decode
+pub mod Striking
 pub mod Operands
+pub mod Possible
 pub mod Readings
