@@ -1,3 +1,4 @@
+pub mod Readings
 pub mod Trees
 pub mod Runs
 pub mod Strike
@@ -5,7 +6,6 @@ pub mod Answers
 pub mod Counting
 pub mod Length
 pub mod PrefixLaw
-pub mod Readings
 pub mod Along
 pub mod Places
 pub mod Rows

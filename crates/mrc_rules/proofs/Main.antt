@@ -1,7 +1,8 @@
 -- What is promised of a decode. Every name in a statement is a definition of specs/, or the library's.
 -- Assumes nothing.
 use mathlib.Core.Path.{_≡_}
-use mathlib.Core.List.{List, _++_, map}
+use mathlib.Core.Logic.{_⊎_}
+use mathlib.Core.List.{List, [], _∷_, _++_, map}
 use Prim.Native.Nat.{ℕ, _+_, _-_, _≤_, _<_, min}
 use lib.ListN.{length, getD, take, drop}
 use Rattle.mrc_instruction.specs.declared.errors.Refusal.{Refusal}
@@ -12,7 +13,7 @@ use Rattle.mrc_rules.specs.Answer.{number, byte, taken, prefixes}
 use Rattle.mrc_rules.specs.Table.{rows}
 use Rattle.mrc_rules.specs.Prefixes.{isOverride, runOf, tailOf, first}
 use Rattle.mrc_rules.specs.Decode.{tail, together, decodeAt, rules}
-use Rattle.mrc_rules.specs.Striking.{AllPrefix, NoPrefix, remains, Left, Same, raised, result}
+use Rattle.mrc_rules.specs.Striking.{AllPrefix, NoPrefix, remains, Left, Same, raised, Apart}
 use Rattle.mrc_rules.specs.Operands.{operandsOf, underFirst}
 use Rattle.mrc_rules.specs.Possible.{Bytes, Possible}
 use Rattle.mrc_rules.specs.Readings.{Case, cases}
@@ -53,15 +54,15 @@ no-more-than-left = order.taken-left rules
 prefixes-counted : (s : List ℕ) (at b : ℕ) → prefixes (decodeAt s at b) ≡ min (length (runOf (drop at s))) (b + 1)
 prefixes-counted = counting.prefixes-counted rules
 
--- 3. Prefixes obey one law: struck and in either order they read the same, and runs that leave different prefixes read differently somewhere.
+-- 3. Prefixes obey one law: struck and in either order they read the same; runs that leave different prefixes read differently before NOP (90)
+-- or before INC AX (40).
 struck-reads-the-same : (b : ℕ) (before run left rest : List ℕ) → AllPrefix run → NoPrefix rest → length run ≤ b → Left run left
     → decodeAt (before ++ (run ++ rest)) (length before) b ≡ raised (length run - length left) (decodeAt (before ++ (left ++ rest)) (length before) b)
 struck-reads-the-same = prefix-law.prefix-law
 
 different-reads-differently : (b : ℕ) (before run run′ : List ℕ) → AllPrefix run → AllPrefix run′ → length run ≤ b → length run′ ≤ b
     → ¬ Same (remains run) (remains run′)
-    → (rest : List ℕ) × NoPrefix rest
-    × ¬ (result (decodeAt (before ++ (run ++ rest)) (length before) b) ≡ result (decodeAt (before ++ (run′ ++ rest)) (length before) b))
+    → Apart (λ l. decodeAt (before ++ l) (length before) b) run run′ (0x90 ∷ []) ⊎ Apart (λ l. decodeAt (before ++ l) (length before) b) run run′ (0x40 ∷ [])
 different-reads-differently = prefix-law.prefix-law-apart
 
 -- 4. The numbered readings; and every first byte has its row.

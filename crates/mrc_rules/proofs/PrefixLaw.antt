@@ -25,7 +25,7 @@ use Rattle.mrc_rules.specs.declared.Answer.{Answer}
 use Rattle.mrc_rules.specs.Prefixes.{first, isOverride, isRepeat, repeatOf, Result, reads, refuses}
 use Rattle.mrc_rules.specs.Table.{rows, rowOf}
 use Rattle.mrc_rules.specs.Decode.{Rules, answer, tail, resultOf, together, decodeBy, decodeAtBy, decodeAt, rules}
-use Rattle.mrc_rules.specs.Striking.{AllPrefix, NoPrefix, remains, Same, Left, raised, result}
+use Rattle.mrc_rules.specs.Striking.{AllPrefix, NoPrefix, remains, Same, Left, raised, result, Apart}
 use Rattle.mrc_rules.proofs.Answers.{result-answer, decode-is, at-front}
 use Rattle.mrc_rules.proofs.Strike.{listed, Is, first-is, Each, Kept, kept, kept-turned, firsts-left, length-remains, each, all, only, repeat-cases}
 
@@ -137,11 +137,10 @@ same-left run run′ a a′ e h =
 module _ (R : Rules)
     (nop : (o r : Option ℕ) → overrideIn (resultOf R o r (tail R (0x90 ∷ []))) ≡ o)
     (inc : (o r : Option ℕ) → repeatIn (resultOf R o r (tail R (0x40 ∷ []))) ≡ repeatByte (repeatOf r)) where
-  -- before some following bytes the two read differently
+  -- before NOP, or before INC AX
   abbrev pub Differ : ℕ → List ℕ → List ℕ → List ℕ → Type 0
   Differ b before run run′ =
-      (rest : List ℕ) × NoPrefix rest
-      × ¬ (result (decodeAtBy R (before ++ (run ++ rest)) (length before) b) ≡ result (decodeAtBy R (before ++ (run′ ++ rest)) (length before) b))
+      Apart (λ l. decodeAtBy R (before ++ l) (length before) b) run run′ (0x90 ∷ []) ⊎ Apart (λ l. decodeAtBy R (before ++ l) (length before) b) run run′ (0x40 ∷ [])
 
   result-is : (b : ℕ) (before run rest : List ℕ) → AllPrefix run → NoPrefix rest → length run ≤ b
       → result (decodeAtBy R (before ++ (run ++ rest)) (length before) b) ≡ resultOf R (first isOverride run) (first isRepeat run) (tail R rest)
@@ -168,8 +167,8 @@ module _ (R : Rules)
           ∙ repeat-again (first isRepeat run′) (first-is isRepeat run′)
 
       go : Dec (first isOverride run ≡ first isOverride run′) → Differ b before run run′
-      go (yes e) = (0x40 ∷ [], refl, λ q. apart (same-left run run′ a a′ e (repeats (by (0x40 ∷ []) refl q))))
-      go (no n) = (0x90 ∷ [], refl, λ q. n (overrides (by (0x90 ∷ []) refl q)))
+      go (yes e) = inr (λ q. apart (same-left run run′ a a′ e (repeats (by (0x40 ∷ []) refl q))))
+      go (no n) = inl (λ q. n (overrides (by (0x90 ∷ []) refl q)))
 
 -- under the rules of this paper
 pub prefix-law : (b : ℕ) (before run left rest : List ℕ) → AllPrefix run → NoPrefix rest → length run ≤ b → Left run left
@@ -178,7 +177,7 @@ prefix-law = prefix-law-by rules
 
 pub prefix-law-apart : (b : ℕ) (before run run′ : List ℕ) → AllPrefix run → AllPrefix run′ → length run ≤ b → length run′ ≤ b
     → ¬ Same (remains run) (remains run′)
-    → (rest : List ℕ) × NoPrefix rest × ¬ (result (decodeAt (before ++ (run ++ rest)) (length before) b) ≡ result (decodeAt (before ++ (run′ ++ rest)) (length before) b))
+    → Apart (λ l. decodeAt (before ++ l) (length before) b) run run′ (0x90 ∷ []) ⊎ Apart (λ l. decodeAt (before ++ l) (length before) b) run run′ (0x40 ∷ [])
 unfolding rows rowOf
 prefix-law-apart = prefix-law-apart-by rules nop inc
   where

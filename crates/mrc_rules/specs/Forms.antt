@@ -123,9 +123,7 @@ rest opcode groupByteToWord = do
   b ← aByte
   done (two (arithmetic (regField m)) (rm m Word) (Operand.Immediate (Immediate.Word b)))
 -- "opcode 8F, reg not 0"
-rest opcode popRm = do
-  m ← aModRM
-  cond (eqb (regField m) 0) (done (one POP (rm m Word))) (refuse (Refusal.InvalidModRegRMEncoding (m .byte)))
+rest opcode popRm = aModRM >>= λ m. cond (eqb (regField m) 0) (done (one POP (rm m Word))) (refuse (Refusal.InvalidModRegRMEncoding (m .byte)))
 -- "8C and 8E with reg 4 to 7"
 rest opcode rmSegment = do
   m ← aModRM
