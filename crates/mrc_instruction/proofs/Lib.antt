@@ -5,4 +5,6 @@ pub mod Rest
 pub mod Then
 pub mod Heard
 pub mod Modes
+pub mod Ends
 pub mod Unique
+pub mod Main

@@ -9,7 +9,7 @@ returns : tie.Need-returns
 returns c = rw (lt-leb _ _ (c .if1 .taken))
 
 try-from-bytes-requires : tie.Need-try-from-bytes-requires
-try-from-bytes-requires c κs = search needs
+try-from-bytes-requires c κs = tt
 
 returns-2 : tie.Need-returns-2
 returns-2 c = rw (le-leb _ _ (c .before .if1 .left)) (c .try-from-bytes .ensures)

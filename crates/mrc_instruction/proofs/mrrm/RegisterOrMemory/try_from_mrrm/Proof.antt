@@ -15,7 +15,7 @@ use Rattle.mrc_instruction.proofs.mrrm.RegisterOrMemory.try_from_mrrm.S
 use Rattle.mrc_instruction.proofs.mrrm.RegisterOrMemory.try_from_mrrm.Tie as tie
 
 read-u16-requires : tie.Need-read-u16-requires
-read-u16-requires c κs = search needs
+read-u16-requires c κs = tt
 
 enum-known-offset : tie.Need-enum-known-offset
 enum-known-offset c = search needs
@@ -24,40 +24,40 @@ enum-known-e : tie.Need-enum-known-e
 enum-known-e c = search needs
 
 from-low-bits-requires : tie.Need-from-low-bits-requires
-from-low-bits-requires c κs = search needs
+from-low-bits-requires c κs = tt
 
 read-u8-requires : tie.Need-read-u8-requires
-read-u8-requires c κs = search needs
+read-u8-requires c κs = tt
 
 enum-known-low : tie.Need-enum-known-low
 enum-known-low c = search needs
 
 from-low-bits-requires-2 : tie.Need-from-low-bits-requires-2
-from-low-bits-requires-2 c κs = search needs
+from-low-bits-requires-2 c κs = tt
 
 signed-byte-requires : tie.Need-signed-byte-requires
-signed-byte-requires c κs = search needs
+signed-byte-requires c κs = tt
 
 enum-known-e-2 : tie.Need-enum-known-e-2
 enum-known-e-2 c = search needs
 
 read-u16-requires-2 : tie.Need-read-u16-requires-2
-read-u16-requires-2 c κs = search needs
+read-u16-requires-2 c κs = tt
 
 enum-known-word : tie.Need-enum-known-word
 enum-known-word c = search needs
 
 from-low-bits-requires-3 : tie.Need-from-low-bits-requires-3
-from-low-bits-requires-3 c κs = search needs
+from-low-bits-requires-3 c κs = tt
 
 signed-word-requires : tie.Need-signed-word-requires
-signed-word-requires c κs = search needs
+signed-word-requires c κs = tt
 
 enum-known-e-3 : tie.Need-enum-known-e-3
 enum-known-e-3 c = search needs
 
 from-low-bits-requires-4 : tie.Need-from-low-bits-requires-4
-from-low-bits-requires-4 c κs = search needs
+from-low-bits-requires-4 c κs = tt
 
 returns : tie.Need-returns
 returns c =

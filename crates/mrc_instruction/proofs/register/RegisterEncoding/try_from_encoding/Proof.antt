@@ -9,7 +9,7 @@ use Rattle.mrc_instruction.proofs.register.RegisterEncoding.try_from_en
 use Rattle.mrc_instruction.proofs.register.RegisterEncoding.try_from_encoding.Tie as tie
 
 from-low-bits-requires : tie.Need-from-low-bits-requires
-from-low-bits-requires c κs = search needs
+from-low-bits-requires c κs = tt
 
 returns : tie.Need-returns
 returns c = simp (lt-ltb _ _ (c .before .if1 .taken), c .from-low-bits .ensures, mod-eq-of-lt (c .before .if1 .taken))
