@@ -17,7 +17,8 @@ ghost use mathlib.Core.Path.{_≡_};
 ghost use Prim.Native.Nat.{_/_, _%_};
 ghost use lib.ListN.{drop};
 ghost use Rattle.mrc_instruction.specs.Reading.{readFrom, readAt};
-ghost use Rattle.mrc_instruction.specs.Mrrm.{registerOrMemory, aModRM, operandOf};
+ghost use Rattle.mrc_instruction.specs.Mrrm.{registerOrMemory, aModRM, operandOf, orNone};
+ghost use Rattle.mrc_instruction.specs.declared.operand.Displacement.{Displacement};
 ghost use Rattle.mrc_instruction.specs.Read.{registerOrMemoryRead, mrrmRead};
 
 pub enum RegisterOrMemory {
@@ -43,12 +44,7 @@ impl RegisterOrMemory {
         match byte / 64 {
             0 => {
                 if rm == 6 {
-                    match read_u16(s, at) {
-                        WordRead::Got(offset, n) => {
-                            RegisterOrMemoryRead::Got(RegisterOrMemory::Direct(offset), n)
-                        }
-                        WordRead::Refused(e, n) => RegisterOrMemoryRead::Refused(e, n),
-                    }
+                    direct(s, at)
                 } else {
                     RegisterOrMemoryRead::Got(
                         RegisterOrMemory::Indirect(AddressingMode::from_low_bits(byte)),
@@ -56,26 +52,8 @@ impl RegisterOrMemory {
                     )
                 }
             }
-            1 => match read_u8(s, at) {
-                ByteRead::Got(low, n) => RegisterOrMemoryRead::Got(
-                    RegisterOrMemory::DisplacementByte(
-                        AddressingMode::from_low_bits(byte),
-                        signed_byte(low),
-                    ),
-                    n,
-                ),
-                ByteRead::Refused(e, n) => RegisterOrMemoryRead::Refused(e, n),
-            },
-            2 => match read_u16(s, at) {
-                WordRead::Got(word, n) => RegisterOrMemoryRead::Got(
-                    RegisterOrMemory::DisplacementWord(
-                        AddressingMode::from_low_bits(byte),
-                        signed_word(word),
-                    ),
-                    n,
-                ),
-                WordRead::Refused(e, n) => RegisterOrMemoryRead::Refused(e, n),
-            },
+            1 => with_byte(byte, s, at),
+            2 => with_word(byte, s, at),
             _ => RegisterOrMemoryRead::Got(
                 RegisterOrMemory::Register(RegisterEncoding::from_low_bits(byte)),
                 0,
@@ -93,23 +71,78 @@ impl RegisterOrMemory {
                 Operand::Indirect(Segment::DS, mode, Displacement::None, size)
             }
             RegisterOrMemory::DisplacementByte(mode, displacement) => {
-                if displacement == 0 {
-                    Operand::Indirect(Segment::DS, mode, Displacement::None, size)
-                } else {
-                    Operand::Indirect(Segment::DS, mode, Displacement::Byte(displacement), size)
-                }
+                Operand::Indirect(Segment::DS, mode, byte_or_none(displacement), size)
             }
             RegisterOrMemory::DisplacementWord(mode, displacement) => {
-                if displacement == 0 {
-                    Operand::Indirect(Segment::DS, mode, Displacement::None, size)
-                } else {
-                    Operand::Indirect(Segment::DS, mode, Displacement::Word(displacement), size)
-                }
+                Operand::Indirect(Segment::DS, mode, word_or_none(displacement), size)
             }
             RegisterOrMemory::Register(register) => {
                 Operand::Register(SizedRegisterEncoding(register, size))
             }
         }
+    }
+}
+
+// mod 0 with rm 6: a 16-bit offset.
+fn direct(s: &[u8], at: usize) -> RegisterOrMemoryRead
+    ensures { λ r. ⌜ r ≡ registerOrMemoryRead (readFrom (registerOrMemory 0 6) (drop at (now (s .entry)))) ⌝ }
+{
+    match read_u16(s, at) {
+        WordRead::Got(offset, n) => RegisterOrMemoryRead::Got(RegisterOrMemory::Direct(offset), n),
+        WordRead::Refused(e, n) => RegisterOrMemoryRead::Refused(e, n),
+    }
+}
+
+// mod 1: a signed byte is added.
+fn with_byte(byte: u8, s: &[u8], at: usize) -> RegisterOrMemoryRead
+    ensures { λ r. ⌜ r ≡ registerOrMemoryRead (readFrom (registerOrMemory 1 (byte % 8)) (drop at (now (s .entry)))) ⌝ }
+{
+    match read_u8(s, at) {
+        ByteRead::Got(low, n) => RegisterOrMemoryRead::Got(
+            RegisterOrMemory::DisplacementByte(
+                AddressingMode::from_low_bits(byte),
+                signed_byte(low),
+            ),
+            n,
+        ),
+        ByteRead::Refused(e, n) => RegisterOrMemoryRead::Refused(e, n),
+    }
+}
+
+// mod 2: a signed word is added.
+fn with_word(byte: u8, s: &[u8], at: usize) -> RegisterOrMemoryRead
+    ensures { λ r. ⌜ r ≡ registerOrMemoryRead (readFrom (registerOrMemory 2 (byte % 8)) (drop at (now (s .entry)))) ⌝ }
+{
+    match read_u16(s, at) {
+        WordRead::Got(word, n) => RegisterOrMemoryRead::Got(
+            RegisterOrMemory::DisplacementWord(
+                AddressingMode::from_low_bits(byte),
+                signed_word(word),
+            ),
+            n,
+        ),
+        WordRead::Refused(e, n) => RegisterOrMemoryRead::Refused(e, n),
+    }
+}
+
+// A displacement of 0 becomes None.
+fn byte_or_none(displacement: i8) -> Displacement
+    ensures { λ r. ⌜ r ≡ orNone Displacement.Byte displacement ⌝ }
+{
+    if displacement == 0 {
+        Displacement::None
+    } else {
+        Displacement::Byte(displacement)
+    }
+}
+
+fn word_or_none(displacement: i16) -> Displacement
+    ensures { λ r. ⌜ r ≡ orNone Displacement.Word displacement ⌝ }
+{
+    if displacement == 0 {
+        Displacement::None
+    } else {
+        Displacement::Word(displacement)
     }
 }
 
