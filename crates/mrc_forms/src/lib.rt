@@ -3,5 +3,6 @@ mod answers;
 pub mod common;
 pub mod forms;
 pub mod groups;
+pub mod places;
 pub mod table;
 pub mod traits;
