@@ -1,0 +1,1 @@
+// The text of operands, the destination before the source.
