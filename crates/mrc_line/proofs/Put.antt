@@ -50,6 +50,10 @@ none s at = record { end = omega arith; most = omega arith; text = sym (append-n
 pub within : {n m : ℕ} {s : List ℕ} {at : ℕ} {t d : List ℕ} {r : ℕ} → n ≤ m → Put n s at t d r → Put m s at t d r
 within h p = record { end = p .end; most = omega (arith, p .most); text = p .text; rest = p .rest }
 
+-- a piece that is the same text, and has a bound that is larger
+pub gives : {n m : ℕ} {s : List ℕ} {at : ℕ} {t u d : List ℕ} {r : ℕ} → n ≤ m → t ≡ u → Put n s at t d r → Put m s at u d r
+gives {n} {m} {s} {at} {d = d} {r = r} h e p = subst (λ (x : List ℕ). Put m s at x d r) e (within h p)
+
 -- a piece that is the same text
 pub same : {n : ℕ} {s : List ℕ} {at : ℕ} {t u d : List ℕ} {r : ℕ} → t ≡ u → Put n s at t d r → Put n s at u d r
 same {n} {s} {at} {d = d} {r = r} e p = subst (λ (x : List ℕ). Put n s at x d r) e p

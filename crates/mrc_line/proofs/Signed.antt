@@ -23,6 +23,13 @@ byte-widens d s = rw (toZ-ofZ s) (sfits-widen {w = w8} {w′ = w16} tt s)
 pub byte-wide : (d : ℤ) → SFits w8 d → toZ w16 (ofZ w16 (toZ w8 (ofZ w8 d))) ≡ d
 byte-wide d s = rw (toZ-ofZ s) (toZ-ofZ (sfits-widen {w = w8} {w′ = w16} tt s))
 
+byte-below : (d : ℤ) → SFits w8 d → natAbs d < 256
+byte-below (pos n) s = let h : n < 128 = s .sfits in omega arith
+byte-below (negsuc n) s = let h : n < 128 = s .sfits in omega arith
+
+pub byte-magnitude : (d : ℤ) → SFits w8 d → Fits w8 (natAbs d)
+byte-magnitude d s = record { fits = byte-below d s }
+
 pub word-widens : (d : ℤ) → SFits w16 d → SFits w32 (toZ w16 (ofZ w16 d))
 word-widens d s = rw (toZ-ofZ s) (sfits-widen {w = w16} {w′ = w32} tt s)
 
