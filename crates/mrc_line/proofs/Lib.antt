@@ -1,2 +1,4 @@
 pub mod Put
 pub mod Signed
+pub mod Trimmed
+pub mod Rows

@@ -1,3 +1,4 @@
 pub mod Text
 pub mod Target
 pub mod Operands
+pub mod Names

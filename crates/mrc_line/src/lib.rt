@@ -1,5 +1,6 @@
 // One listing line, and pages of lines.
 mod memory;
+mod names;
 mod operands;
 mod registers;
 mod target;
