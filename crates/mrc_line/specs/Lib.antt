@@ -2,3 +2,4 @@ pub mod Text
 pub mod Target
 pub mod Operands
 pub mod Names
+pub mod Line

@@ -29,6 +29,13 @@ abbrev pub pairs : List ℕ → List ℕ
 pairs [] = []
 pairs (b ∷ l) = hex2 b ++ 32 ∷ pairs l
 
+-- "the first seven bytes taken, .. padded to 21 characters"
+abbrev pub shown : ℕ
+shown = 7
+
+abbrev pub fieldWidth : ℕ
+fieldWidth = 21
+
 -- "padded to" a number of characters
 abbrev pub padded : ℕ → List ℕ → List ℕ
 padded n t = t ++ replicate (n - length t) 32

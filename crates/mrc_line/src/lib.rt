@@ -3,5 +3,6 @@ mod memory;
 mod names;
 mod operands;
 mod registers;
+mod step;
 mod target;
 mod text;

@@ -3,7 +3,11 @@ ghost use mathlib.Core.Path.{_≡_};
 ghost use Prim.Native.Nat.{_+_, _*_, _<_, _≤_};
 ghost use lib.ListN.{length, replicate};
 ghost use mathlib.Core.List.{[], _∷_};
-ghost use Rattle.mrc_line.specs.Text.{Put, digitOf, hex2, hex4, pairs};
+ghost use Rattle.mrc_line.specs.Text.{Put, digitOf, hex2, hex4, pairs, padded, shown, fieldWidth};
+
+// How many of the bytes taken are shown, and how many characters their field has.
+pub const SHOWN: usize = 7;
+const FIELD: usize = 21;
 
 // The digit of a number below 16.
 fn digit(n: u8) -> u8
@@ -84,4 +88,14 @@ pub fn put_pairs(buf: &mut [u8], at: usize, src: &[u8]) -> usize
         i += 1;
     }
     o
+}
+
+// At most seven bytes, each as two digits and a space, over a field of blanks.
+pub fn put_field(buf: &mut [u8], at: usize, src: &[u8]) -> usize
+    requires { ⌜ (at + fieldWidth ≤ length (now buf)) × (length (now src) ≤ shown) ⌝ }
+    ensures { λ r. ⌜ Put fieldWidth (now (buf .entry)) at (padded fieldWidth (pairs (now (src .entry)))) (now (buf .exit)) r ⌝ }
+{
+    let end = put_spaces(buf, at, FIELD);
+    put_pairs(buf, at, src);
+    end
 }
