@@ -3,3 +3,4 @@ pub mod Target
 pub mod Operands
 pub mod Names
 pub mod Line
+pub mod Page

@@ -8,7 +8,11 @@ use lib.ListN.{length, getD, take, drop}
 use Rattle.mrc_instruction.specs.declared.instruction.Repeat.{Repeat}
 use Rattle.mrc_instruction.specs.declared.instruction.Repeated.{Repeated}
 use Rattle.mrc_instruction.specs.declared.instruction.Instruction.{Instruction}
+use Rattle.mrc_instruction.specs.declared.errors.Refusal.{Refusal}
 use Rattle.mrc_rules.specs.declared.Answer.{Answer}
+use Rattle.mrc_rules.specs.Decode.{decodeAt}
+use Rattle.mrc_line.specs.declared.answer.LineAnswer.{LineAnswer}
+use Rattle.mrc_line.specs.Target.{offsets}
 use Rattle.mrc_line.specs.Text.{bytes, hex2, hex4, pairs, padded, shown, fieldWidth}
 use Rattle.mrc_line.specs.Names.{nameOf}
 use Rattle.mrc_line.specs.Operands.{operandsText}
@@ -47,6 +51,36 @@ abbrev pub stepTaken : Answer → ℕ
 stepTaken (Answer.Decoded i n p) = n
 stepTaken (Answer.Refused e n p) = 1
 
--- the longest line that any record can have
+-- the most bytes that a line has, whatever the record
 abbrev pub longest : ℕ
 longest = 85
+
+-- "Budget 15 for it and the line call."
+abbrev pub budget : ℕ
+budget = 15
+
+-- the line at a place of an image, and the bytes that it accounts for
+unfoldable pub lineText : List ℕ → ℕ → List ℕ
+lineText s at = stepText s at (decodeAt s at budget)
+
+unfoldable pub lineTaken : List ℕ → ℕ → ℕ
+lineTaken s at = stepTaken (decodeAt s at budget)
+
+-- "Order in a line call: 13, 11, 1 (position equal to the length), 12."; else the line's length and the bytes taken
+unfoldable pub answerOf : List ℕ → ℕ → ℕ → LineAnswer
+answerOf s at room =
+    cond (ltb offsets (length s)) (LineAnswer.Refused Refusal.ImageTooLong)
+    (cond (ltb (length s) at) (LineAnswer.Refused Refusal.OutsideInput)
+    (cond (eqb (length s) at) (LineAnswer.Refused Refusal.EndOfInput)
+    (cond (ltb room (length (lineText s at))) (LineAnswer.Refused Refusal.NoRoom)
+    (LineAnswer.Line (length (lineText s at)) (lineTaken s at)))))
+
+-- what a buffer holds after an answer: the line, and "the buffer beyond the line unchanged"; "a refused line call changes no byte"
+abbrev pub after : LineAnswer → List ℕ → List ℕ → List ℕ
+after (LineAnswer.Line len taken) text out = text ++ drop len out
+after (LineAnswer.Refused e) text out = out
+
+-- a line call's answer r, and its buffer before the call and after it
+pub record Listed (s : List ℕ) (at : ℕ) (out : List ℕ) (r : LineAnswer) (done : List ℕ) : Type 0 where
+  pub answer : r ≡ answerOf s at (length out)
+  pub bytes : done ≡ after (answerOf s at (length out)) (lineText s at) out

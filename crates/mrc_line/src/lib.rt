@@ -1,7 +1,9 @@
 // One listing line, and pages of lines.
+pub mod answer;
 mod memory;
 mod names;
 mod operands;
+pub mod page;
 mod registers;
 mod step;
 mod target;
