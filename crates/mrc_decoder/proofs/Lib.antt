@@ -1,0 +1,4 @@
+pub mod Arms
+pub mod Steps
+pub mod Wrapping
+pub mod Decoding

@@ -1,0 +1,69 @@
+-- What a prefix makes of the answer behind it: the decoder calls itself after the prefix, with the budget one lower, and wraps what comes back.
+-- Both counts grow by one.
+use Prim.Native.Nat.{ℕ, _+_, _<_, _^_}
+use mathlib.Core.Bool.{cond}
+use Rattle.mrc_instruction.specs.declared.errors.Refusal.{Refusal}
+use Rattle.mrc_instruction.specs.declared.errors.Refusal.the-variants.{EndOfInput, CouldNotReadExtraBytes, InvalidDataSizeEncoding, InvalidIndirectMemoryEncoding, InvalidModRegRMEncoding, InvalidOpCode, InvalidRegisterEncoding, InvalidSegmentEncoding, InvalidPrefix, TooManyPrefixes, OutsideInput, NoRoom, ImageTooLong}
+use Rattle.mrc_instruction.specs.declared.instruction.Repeated.{Repeated}
+use Rattle.mrc_instruction.specs.declared.instruction.Instruction.{Instruction}
+use Rattle.mrc_rules.specs.declared.Answer.{Answer}
+use Rattle.mrc_rules.specs.Answer.{taken, prefixes}
+use Rattle.mrc_rules.specs.Prefixes.{isOverride, isRepeat, Result, reads, refuses, made, under}
+use Rattle.mrc_rules.specs.Decode.{answer}
+use Rattle.mrc_decoder.specs.declared.prefixes.Prefix.{Prefix}
+
+-- which kind of prefix a byte is
+abbrev pub prefixOf : ℕ → Prefix
+prefixOf b = cond (isOverride b) Prefix.Override (cond (isRepeat b) Prefix.Repeat Prefix.No)
+
+-- a refusal under an override: too many prefixes passes through; any other, an inner override's too, becomes InvalidPrefix with this override,
+-- which is the earlier one
+abbrev pub refusalUnder : ℕ → Refusal → Refusal
+refusalUnder o EndOfInput = InvalidPrefix o
+refusalUnder o CouldNotReadExtraBytes = InvalidPrefix o
+refusalUnder o (InvalidDataSizeEncoding b) = InvalidPrefix o
+refusalUnder o (InvalidIndirectMemoryEncoding b) = InvalidPrefix o
+refusalUnder o (InvalidModRegRMEncoding b) = InvalidPrefix o
+refusalUnder o (InvalidOpCode b) = InvalidPrefix o
+refusalUnder o (InvalidRegisterEncoding b) = InvalidPrefix o
+refusalUnder o (InvalidSegmentEncoding b) = InvalidPrefix o
+refusalUnder o (InvalidPrefix b) = InvalidPrefix o
+refusalUnder o (TooManyPrefixes b) = TooManyPrefixes b
+refusalUnder o OutsideInput = InvalidPrefix o
+refusalUnder o NoRoom = InvalidPrefix o
+refusalUnder o ImageTooLong = InvalidPrefix o
+
+-- a result under an override, by what the override makes of an instruction; and under a repeat
+abbrev pub resultUnder : (ℕ → Instruction → Result) → ℕ → Result → Result
+resultUnder over o (reads i) = over o i
+resultUnder over o (refuses e) = refuses (refusalUnder o e)
+
+abbrev pub resultRepeated : Repeated → Result → Result
+resultRepeated r (reads i) = reads (made i r (i .operands))
+resultRepeated r (refuses e) = refuses e
+
+-- an answer behind one prefix more
+abbrev pub wrapped : (Result → Result) → Answer → Answer
+wrapped f (Answer.Decoded i n p) = answer (f (reads i)) (n + 1) (p + 1)
+wrapped f (Answer.Refused e n p) = answer (f (refuses e)) (n + 1) (p + 1)
+
+abbrev pub underOverrideBy : (ℕ → Instruction → Result) → ℕ → Answer → Answer
+underOverrideBy over o d = wrapped (resultUnder over o) d
+
+abbrev pub withRepeat : Repeated → Answer → Answer
+withRepeat r d = wrapped (resultRepeated r) d
+
+-- by the rules: the operands' segments are replaced, and a repeat stays
+abbrev pub overridden : ℕ → Instruction → Result
+overridden o i = under o (i .repeat) i (i .operands)
+
+abbrev pub underOverride : ℕ → Answer → Answer
+underOverride = underOverrideBy overridden
+
+-- a prefix over the budget
+abbrev pub tooMany : ℕ → Answer
+tooMany b = Answer.Refused (TooManyPrefixes b) 1 1
+
+-- both counts can grow by one
+abbrev pub Small : Answer → Type 0
+Small d = (taken d < 2 ^ 63) × (prefixes d < 2 ^ 63)

@@ -1,0 +1,183 @@
+// Prefixes: which bytes they are, and what one makes of the answer to the bytes behind it.
+use mrc_instruction::errors::Refusal;
+use mrc_instruction::instruction::Instruction;
+use mrc_instruction::instruction::OperandSet;
+use mrc_instruction::instruction::Repeat;
+use mrc_instruction::instruction::Repeated;
+use mrc_instruction::operand::Operand;
+use mrc_instruction::register::Segment;
+use mrc_rules::Answer;
+ghost use mathlib.Core.Path.{_≡_};
+ghost use mathlib.Core.Option.{some};
+ghost use Rattle.mrc_instruction.specs.declared.instruction.Repeated.{Repeated};
+ghost use Rattle.mrc_rules.specs.Prefixes.{inSegment, repeatOf};
+ghost use Rattle.mrc_decoder.specs.Wrap.{prefixOf, refusalUnder, underOverride, withRepeat, Small};
+
+// What a byte is, before an instruction.
+pub enum Prefix {
+    No,
+    Override,
+    Repeat,
+}
+
+// Segment overrides are 26, 2E, 36, 3E; repeats are F2 and F3.
+pub fn prefix_of(byte: u8) -> Prefix
+    ensures { λ r. ⌜ r ≡ prefixOf byte ⌝ }
+{
+    match byte {
+        0x26 => Prefix::Override,
+        0x2E => Prefix::Override,
+        0x36 => Prefix::Override,
+        0x3E => Prefix::Override,
+        0xF2 => Prefix::Repeat,
+        0xF3 => Prefix::Repeat,
+        _ => Prefix::No,
+    }
+}
+
+// The operand in another segment, where it is Direct or Indirect.
+pub fn override_segment(operand: Operand, segment: Segment) -> Operand
+    ensures { λ r. ⌜ r ≡ inSegment segment operand ⌝ }
+{
+    match operand {
+        Operand::Direct(_, offset, size) => Operand::Direct(segment, offset, size),
+        Operand::Indirect(_, mode, displacement, size) => {
+            Operand::Indirect(segment, mode, displacement, size)
+        }
+        Operand::Register(register) => Operand::Register(register),
+        Operand::Segment(named) => Operand::Segment(named),
+        Operand::Immediate(immediate) => Operand::Immediate(immediate),
+        Operand::Displacement(displacement) => Operand::Displacement(displacement),
+        Operand::SegmentAndOffset(address) => Operand::SegmentAndOffset(address),
+    }
+}
+
+// A refusal under an override: too many prefixes passes through, and any other is the override's own.
+fn refusal_under(prefix: u8, refusal: Refusal) -> Refusal
+    ensures { λ r. ⌜ r ≡ refusalUnder prefix refusal ⌝ }
+{
+    match refusal {
+        Refusal::EndOfInput => Refusal::InvalidPrefix(prefix),
+        Refusal::CouldNotReadExtraBytes => Refusal::InvalidPrefix(prefix),
+        Refusal::InvalidDataSizeEncoding(_) => Refusal::InvalidPrefix(prefix),
+        Refusal::InvalidIndirectMemoryEncoding(_) => Refusal::InvalidPrefix(prefix),
+        Refusal::InvalidModRegRMEncoding(_) => Refusal::InvalidPrefix(prefix),
+        Refusal::InvalidOpCode(_) => Refusal::InvalidPrefix(prefix),
+        Refusal::InvalidRegisterEncoding(_) => Refusal::InvalidPrefix(prefix),
+        Refusal::InvalidSegmentEncoding(_) => Refusal::InvalidPrefix(prefix),
+        Refusal::InvalidPrefix(_) => Refusal::InvalidPrefix(prefix),
+        Refusal::TooManyPrefixes(over) => Refusal::TooManyPrefixes(over),
+        Refusal::OutsideInput => Refusal::InvalidPrefix(prefix),
+        Refusal::NoRoom => Refusal::InvalidPrefix(prefix),
+        Refusal::ImageTooLong => Refusal::InvalidPrefix(prefix),
+    }
+}
+
+// The inner answer under an override: each operand in its segment, and refused where there is none.
+pub fn under_override(prefix: u8, inner: Answer) -> Answer
+    requires { ⌜ Small inner ⌝ }
+    ensures { λ r. ⌜ r ≡ underOverride prefix inner ⌝ }
+{
+    let segment = Segment::from_low_bits(prefix / 8);
+    match inner {
+        Answer::Decoded {
+            instruction,
+            taken,
+            prefixes,
+        } => {
+            let operation = instruction.operation;
+            let operands = instruction.operands;
+            let repeat = instruction.repeat;
+            match operands {
+                OperandSet::None => Answer::Refused {
+                    refusal: Refusal::InvalidPrefix(prefix),
+                    taken: taken + 1,
+                    prefixes: prefixes + 1,
+                },
+                OperandSet::Destination(destination) => {
+                    let operands = OperandSet::Destination(override_segment(destination, segment));
+                    Answer::Decoded {
+                        instruction: Instruction {
+                            operation,
+                            operands,
+                            repeat,
+                        },
+                        taken: taken + 1,
+                        prefixes: prefixes + 1,
+                    }
+                }
+                OperandSet::DestinationAndSource(destination, source) => {
+                    let operands = OperandSet::DestinationAndSource(
+                        override_segment(destination, segment),
+                        override_segment(source, segment),
+                    );
+                    Answer::Decoded {
+                        instruction: Instruction {
+                            operation,
+                            operands,
+                            repeat,
+                        },
+                        taken: taken + 1,
+                        prefixes: prefixes + 1,
+                    }
+                }
+            }
+        }
+        Answer::Refused {
+            refusal,
+            taken,
+            prefixes,
+        } => Answer::Refused {
+            refusal: refusal_under(prefix, refusal),
+            taken: taken + 1,
+            prefixes: prefixes + 1,
+        },
+    }
+}
+
+// The repeat that a prefix names.
+fn repeat_of(prefix: u8) -> Repeat
+    ensures { λ r. ⌜ Repeated.Some r ≡ repeatOf (some prefix) ⌝ }
+{
+    if prefix == 0xF2 {
+        Repeat::NotEqual
+    } else {
+        Repeat::Equal
+    }
+}
+
+// The inner answer under a repeat, which replaces a later one.
+pub fn with_repeat(prefix: u8, inner: Answer) -> Answer
+    requires { ⌜ Small inner ⌝ }
+    ensures { λ r. ⌜ r ≡ withRepeat (repeatOf (some prefix)) inner ⌝ }
+{
+    let repeat = Repeated::Some(repeat_of(prefix));
+    match inner {
+        Answer::Decoded {
+            instruction,
+            taken,
+            prefixes,
+        } => {
+            let operation = instruction.operation;
+            let operands = instruction.operands;
+            Answer::Decoded {
+                instruction: Instruction {
+                    operation,
+                    operands,
+                    repeat,
+                },
+                taken: taken + 1,
+                prefixes: prefixes + 1,
+            }
+        }
+        Answer::Refused {
+            refusal,
+            taken,
+            prefixes,
+        } => Answer::Refused {
+            refusal,
+            taken: taken + 1,
+            prefixes: prefixes + 1,
+        },
+    }
+}

@@ -1,0 +1,4 @@
+pub mod Heard
+pub mod Picked
+pub mod Unary
+pub mod Whole

@@ -1,0 +1,44 @@
+-- One reading, and then done.
+-- Assumes nothing.
+use mathlib.Core.Path.{refl, sym, ap, _∙_}
+use native.Mathlib.Omega.{arith}
+use Rattle.mrc_rules.specs.Forms.{aDisplacement}
+use Rattle.mrc_instruction.proofs.Then.{took, done-at, stop-at}
+use Rattle.mrc_forms.proofs.Heard.{displacement-is}
+use Rattle.mrc_forms.specs.Behind.{behind}
+use borrow.Author.Needs.{needs}
+use Rattle.mrc_forms.proofs.forms.on_displacement.Statement.{statement}
+use Rattle.mrc_forms.proofs.forms.on_displacement.Tie as tie
+
+read-displacement-requires : tie.Need-read-displacement-requires
+read-displacement-requires c κs = search needs
+
+enum-known-displacement : tie.Need-enum-known-displacement
+enum-known-displacement c = search needs
+
+decoded-requires : tie.Need-decoded-requires
+decoded-requires c κs = omega (arith, took (aDisplacement (c .before .before .before .before .before .args .size)) (c .before .before .before .before .before .args .s .now) (c .before .before .before .before .before .args .at) (displacement-is (sym (c .before .displacement .given .1) ∙ c .before .before .before .read-displacement .ensures)))
+
+enum-known-e : tie.Need-enum-known-e
+enum-known-e c = search needs
+
+refused-requires : tie.Need-refused-requires
+refused-requires c κs = omega (arith, took (aDisplacement (c .before .before .before .before .before .args .size)) (c .before .before .before .before .before .args .s .now) (c .before .before .before .before .before .args .at) (displacement-is (sym (c .before .e .given .1) ∙ c .before .before .before .read-displacement .ensures)))
+
+returns : tie.Need-returns
+returns c = rw (c .decoded .ensures) (ap behind (done-at (aDisplacement (c .before .before .before .before .before .before .args .size)) _ (c .before .before .before .before .before .before .args .s .now) (c .before .before .before .before .before .before .args .at) (displacement-is (sym (c .before .before .displacement .given .1) ∙ c .before .before .before .before .read-displacement .ensures)) refl))
+
+returns-2 : tie.Need-returns-2
+returns-2 c = c .refused .ensures ∙ ap behind (stop-at (aDisplacement (c .before .before .before .before .before .before .args .size)) _ (c .before .before .before .before .before .before .args .s .now) (c .before .before .before .before .before .before .args .at) (displacement-is (sym (c .before .before .e .given .1) ∙ c .before .before .before .before .read-displacement .ensures)))
+
+pub on-displacement-spec : {M : Type 1} → statement M
+on-displacement-spec =
+    tie.close
+    (tie.spec
+    read-displacement-requires
+    enum-known-displacement
+    decoded-requires
+    enum-known-e
+    refused-requires
+    returns
+    returns-2)

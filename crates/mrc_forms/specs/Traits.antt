@@ -1,0 +1,20 @@
+-- "w is bit 0 (0 Byte, 1 Word)"; and what the readers of immediates and displacements answer.
+use Prim.Native.Nat.{ℕ, _%_}
+use mathlib.Core.Bool.{cond}
+use lib.Dec.{eqb}
+use Rattle.mrc_instruction.specs.declared.operand.OperandSize.{OperandSize}
+use Rattle.mrc_instruction.specs.declared.operand.Immediate.{Immediate}
+use Rattle.mrc_instruction.specs.declared.operand.Displacement.{Displacement}
+use Rattle.mrc_instruction.specs.Reading.{Outcome}
+use Rattle.mrc_instruction.specs.Read.{answered}
+use Rattle.mrc_forms.specs.declared.traits.ImmediateRead.{ImmediateRead}
+use Rattle.mrc_forms.specs.declared.traits.DisplacementRead.{DisplacementRead}
+
+abbrev pub sizeBy : ℕ → OperandSize
+sizeBy bits = cond (eqb (bits % 2) 0) OperandSize.Byte OperandSize.Word
+
+abbrev pub immediateRead : Outcome Immediate → ImmediateRead
+immediateRead = answered ImmediateRead.Got ImmediateRead.Refused
+
+abbrev pub displacementRead : Outcome Displacement → DisplacementRead
+displacementRead = answered DisplacementRead.Got DisplacementRead.Refused

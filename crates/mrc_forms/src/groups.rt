@@ -1,0 +1,115 @@
+// The operations of a group: by reg, or by bits of the opcode.
+use mrc_instruction::operation::Operation;
+ghost use mathlib.Core.Path.{_≡_};
+ghost use Prim.Native.Nat.{_/_, _%_};
+ghost use Rattle.mrc_rules.specs.Forms.{arithmetic, shift, incOrDec, unaryOperation};
+ghost use Rattle.mrc_forms.specs.Groups.{jumpOf, immediateOperation};
+
+// 80 to 83, by reg.
+pub const GROUP_80: u8 = 0x80;
+// C6 and C7: MOV, whatever reg is.
+pub const GROUP_C6: u8 = 0xC6;
+
+// The operation of 00 to 3F, by bits 5 to 3 of the opcode.
+pub fn group1_operation(opcode: u8) -> Operation
+    ensures { λ r. ⌜ r ≡ arithmetic (opcode / 8 % 8) ⌝ }
+{
+    group80_operation(opcode / 8 % 8)
+}
+
+// The shifts, by reg.
+pub fn group2_operation(bits: u8) -> Operation
+    ensures { λ r. ⌜ r ≡ shift bits ⌝ }
+{
+    match bits {
+        0 => Operation::ROL,
+        1 => Operation::ROR,
+        2 => Operation::RCL,
+        3 => Operation::RCR,
+        4 => Operation::SHL,
+        5 => Operation::SHR,
+        6 => Operation::SHL,
+        _ => Operation::SAR,
+    }
+}
+
+// 80 to 83, by reg.
+pub fn group80_operation(bits: u8) -> Operation
+    ensures { λ r. ⌜ r ≡ arithmetic bits ⌝ }
+{
+    match bits {
+        0 => Operation::ADD,
+        1 => Operation::OR,
+        2 => Operation::ADC,
+        3 => Operation::SBB,
+        4 => Operation::AND,
+        5 => Operation::SUB,
+        6 => Operation::XOR,
+        _ => Operation::CMP,
+    }
+}
+
+// The operation of an immediate to a register or memory, by the number that names its group and by reg.
+pub fn immediate_operation(group: u8, bits: u8) -> Operation
+    ensures { λ r. ⌜ r ≡ immediateOperation group bits ⌝ }
+{
+    if group == GROUP_80 {
+        group80_operation(bits)
+    } else {
+        Operation::MOV
+    }
+}
+
+// F6 and F7, by reg less 2.
+pub fn unary_operation(bits: u8) -> Operation
+    ensures { λ r. ⌜ r ≡ unaryOperation bits ⌝ }
+{
+    match bits {
+        0 => Operation::NOT,
+        1 => Operation::NEG,
+        2 => Operation::MUL,
+        3 => Operation::IMUL,
+        4 => Operation::DIV,
+        _ => Operation::IDIV,
+    }
+}
+
+// FE and FF, by reg.
+pub fn increment_operation(bits: u8) -> Operation
+    ensures { λ r. ⌜ r ≡ incOrDec bits ⌝ }
+{
+    match bits {
+        0 => Operation::INC,
+        1 => Operation::DEC,
+        2 => Operation::CALL,
+        3 => Operation::CALL,
+        4 => Operation::JMP,
+        5 => Operation::JMP,
+        6 => Operation::PUSH,
+        _ => Operation::PUSH,
+    }
+}
+
+// 70 to 7F, by the low four bits of the opcode.
+pub fn jump_operation(bits: u8) -> Operation
+    ensures { λ r. ⌜ r ≡ jumpOf bits ⌝ }
+{
+    match bits {
+        0 => Operation::JO,
+        1 => Operation::JNO,
+        2 => Operation::JB,
+        3 => Operation::JNB,
+        4 => Operation::JE,
+        5 => Operation::JNE,
+        6 => Operation::JBE,
+        7 => Operation::JNBE,
+        8 => Operation::JS,
+        9 => Operation::JNS,
+        10 => Operation::JP,
+        11 => Operation::JNP,
+        12 => Operation::JL,
+        13 => Operation::JNL,
+        14 => Operation::JLE,
+        _ => Operation::JNLE,
+    }
+}
