@@ -6,3 +6,8 @@ pub mod Takes
 pub mod Lines
 pub mod Pages
 pub mod Lengths
+pub mod Answers
+pub mod Paging
+pub mod Settled
+pub mod Example
+pub mod Main

@@ -12,7 +12,7 @@ use Rattle.mrc_rules.specs.Answer.{taken}
 use Rattle.mrc_rules.specs.Decode.{rules, decodeAt}
 use Rattle.mrc_rules.proofs.Counting.{taken-there, budget-kept}
 use Rattle.mrc_rules.proofs.Length.{length-rule}
-use Rattle.mrc_line.specs.Line.{budget, stepTaken, lineTaken}
+use Rattle.mrc_line.specs.Line.{budget, stepText, stepTaken, lineText, lineTaken}
 
 -- what an answer at a place accounts for
 pub record Takes (s : List ℕ) (at : ℕ) (n : ℕ) : Type 0 where
@@ -37,3 +37,16 @@ step-takes s at h = by-answer s at h (decodeAt s at budget) refl
 pub line-takes : (s : List ℕ) (at : ℕ) → at < length s → Takes s at (lineTaken s at)
 unfolding lineTaken
 line-takes s at h = step-takes s at h
+
+-- what was decoded at a place makes the line there
+module _ (s : List ℕ) (at : ℕ) {a : Answer} (e : a ≡ decodeAt s at budget) where
+  pub text-is : stepText s at a ≡ lineText s at
+  unfolding lineText
+  text-is = ap (stepText s at) e
+
+  pub taken-is : stepTaken a ≡ lineTaken s at
+  unfolding lineTaken
+  taken-is = ap stepTaken e
+
+  pub takes : at < length s → Takes s at (stepTaken a)
+  takes h = rw e (step-takes s at h)

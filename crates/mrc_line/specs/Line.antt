@@ -11,7 +11,7 @@ use Rattle.mrc_instruction.specs.declared.instruction.Instruction.{Instruction}
 use Rattle.mrc_instruction.specs.declared.errors.Refusal.{Refusal}
 use Rattle.mrc_rules.specs.declared.Answer.{Answer}
 use Rattle.mrc_rules.specs.Decode.{decodeAt}
-use Rattle.mrc_line.specs.declared.answer.LineAnswer.{LineAnswer}
+use Rattle.mrc_line.specs.declared.line.LineAnswer.{LineAnswer}
 use Rattle.mrc_line.specs.Target.{offsets}
 use Rattle.mrc_line.specs.Text.{bytes, hex2, hex4, pairs, padded, shown, fieldWidth}
 use Rattle.mrc_line.specs.Names.{nameOf}

@@ -1,5 +1,5 @@
 // One listing line, and pages of lines.
-pub mod answer;
+pub mod line;
 mod memory;
 mod names;
 mod operands;
@@ -8,3 +8,4 @@ mod registers;
 mod step;
 mod target;
 mod text;
+mod write;

@@ -9,7 +9,7 @@ ghost use Rattle.mrc_line.specs.Text.{Put, trimmed};
 ghost use Rattle.mrc_line.specs.Names.{nameOf, rowOf, operations};
 
 // Every name, padded to six letters.
-pub const NAMES: [[u8; 6]; 97] = [
+const NAMES: [[u8; 6]; 97] = [
     *b"MOV   ",
     *b"PUSH  ",
     *b"POP   ",
@@ -108,6 +108,13 @@ pub const NAMES: [[u8; 6]; 97] = [
     *b"NOP   ",
     *b"SALC  ",
 ];
+
+// The table by value: a call takes it out once, however many rows it reads.
+pub fn table() -> [[u8; 6]; 97]
+    ensures { λ r. ⌜ r ≡ map rowOf operations ⌝ }
+{
+    NAMES
+}
 
 // The place of an operation's row.
 fn place(operation: Operation) -> usize
