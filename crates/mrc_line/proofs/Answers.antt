@@ -1,0 +1,94 @@
+-- The answers of a line call, by the tests that lead to each; and that the promise settles the answer and the buffer.
+-- Assumes nothing.
+use mathlib.Core.Path.{_≡_, refl, sym, ap, _∙_}
+use mathlib.Core.Bool.{Bool, true, false, cond}
+use mathlib.Core.List.{List, _++_}
+use Prim.Native.Nat.{ℕ, _<_, _≤_}
+use native.Mathlib.Omega.{arith}
+use borrow.Author.Tests.{ltb-true, ltb-false, lt-ltb, le-ltb, eq-eqb, ne-eqb}
+use lib.Dec.{ltb, eqb}
+use lib.ListN.{length, drop, take-append-drop}
+use Rattle.mrc_instruction.specs.declared.errors.Refusal.{Refusal}
+use Rattle.mrc_instruction.specs.declared.errors.Refusal.the-variants.{ImageTooLong, OutsideInput, EndOfInput, NoRoom}
+use Rattle.mrc_line.specs.declared.line.LineAnswer.{LineAnswer}
+use Rattle.mrc_line.specs.declared.line.LineAnswer.the-variants.{Line, Refused}
+use Rattle.mrc_line.specs.Text.{Put}
+use Rattle.mrc_line.specs.Target.{offsets}
+use Rattle.mrc_line.specs.Line.{lineText, lineTaken, answerOf, after, Listed}
+
+module _ (s : List ℕ) (at : ℕ) (out : List ℕ) where
+  -- a refusal, with the buffer as it was
+  pub refused : (e : Refusal) → Refused e ≡ answerOf s at (length out) → Listed s at out (Refused e) out
+  refused e h = record { answer = h; bytes = ap (λ a. after a (lineText s at) out) h }
+
+  pub too-long : offsets < length s → Refused ImageTooLong ≡ answerOf s at (length out)
+  unfolding answerOf
+  too-long h = simp (lt-ltb offsets (length s) h)
+
+  module _ (h : length s ≤ offsets) where
+    pub outside : length s < at → Refused OutsideInput ≡ answerOf s at (length out)
+    unfolding answerOf
+    outside k = simp (le-ltb offsets (length s) h, lt-ltb (length s) at k)
+
+    pub at-end : length s ≡ at → Refused EndOfInput ≡ answerOf s at (length out)
+    unfolding answerOf
+    at-end k = simp (le-ltb offsets (length s) h, le-ltb (length s) at (omega arith), eq-eqb (length s) at k)
+
+    module _ (k : at < length s) where
+      pub no-room : length out < length (lineText s at) → Refused NoRoom ≡ answerOf s at (length out)
+      unfolding answerOf
+      no-room l = simp (le-ltb offsets (length s) h, le-ltb (length s) at (omega arith), ne-eqb (length s) at (λ e. omega arith), lt-ltb (length out) (length (lineText s at)) l)
+
+      room : length (lineText s at) ≤ length out → Line (length (lineText s at)) (lineTaken s at) ≡ answerOf s at (length out)
+      unfolding answerOf
+      room l = simp (le-ltb offsets (length s) h, le-ltb (length s) at (omega arith), ne-eqb (length s) at (λ e. omega arith), le-ltb (length out) (length (lineText s at)) l)
+
+      -- the line, put at the buffer's start
+      pub written :
+          {n : ℕ} {done : List ℕ} (r len taken : ℕ) → Put n out 0 (lineText s at) done r → length (lineText s at) ≤ length out → len ≡ r →
+          taken ≡ lineTaken s at → Listed s at out (Line len taken) done
+      written {done = done} r len taken p l f g =
+          let e : len ≡ length (lineText s at) = omega (arith, p .end) in
+          let a : Line len taken ≡ answerOf s at (length out) = ap (λ x. Line x taken) e ∙ ap (Line (length (lineText s at))) g ∙ room l in
+          record {
+            answer = a;
+            bytes =
+                sym (take-append-drop r done) ∙ ap (λ (u : List ℕ). u ++ drop r done) (p .text) ∙ ap (λ (u : List ℕ). lineText s at ++ u) (p .rest)
+                ∙ ap (λ (m : ℕ). lineText s at ++ drop m out) (sym f) ∙ ap (λ x. after x (lineText s at) out) a;
+          }
+
+-- what an answer tells of the line
+pub record Told (s : List ℕ) (at room len taken : ℕ) : Type 0 where
+  pub len-is : len ≡ length (lineText s at)
+  pub taken-is : taken ≡ lineTaken s at
+  pub fits : length (lineText s at) ≤ room
+
+told-by :
+    (s : List ℕ) (at room len taken : ℕ) (a b c d : Bool) → (d ≡ false → length (lineText s at) ≤ room) →
+    Line len taken
+    ≡ cond a (Refused ImageTooLong) (cond b (Refused OutsideInput) (cond c (Refused EndOfInput) (cond d (Refused NoRoom) (Line (length (lineText s at)) (lineTaken s at))))) →
+    Told s at room len taken
+told-by s at room len taken true b c d f e = let z : _≡_ {A = ℕ} 0 1 = cc in absurd (omega arith)
+told-by s at room len taken false true c d f e = let z : _≡_ {A = ℕ} 0 1 = cc in absurd (omega arith)
+told-by s at room len taken false false true d f e = let z : _≡_ {A = ℕ} 0 1 = cc in absurd (omega arith)
+told-by s at room len taken false false false true f e = let z : _≡_ {A = ℕ} 0 1 = cc in absurd (omega arith)
+told-by s at room len taken false false false false f e = record { len-is = cc; taken-is = cc; fits = f refl }
+
+pub told : (s : List ℕ) (at room len taken : ℕ) → Line len taken ≡ answerOf s at room → Told s at room len taken
+unfolding answerOf
+told s at room len taken e =
+    told-by s at room len taken (ltb offsets (length s)) (ltb (length s) at) (eqb (length s) at) (ltb room (length (lineText s at)))
+    (λ d. ltb-false room (length (lineText s at)) d) e
+
+-- within an image that is not too long, only room is a reason to refuse
+lacks-by :
+    (s : List ℕ) (at room : ℕ) (e : Refusal) (d : Bool) → (d ≡ true → room < length (lineText s at)) →
+    Refused e ≡ cond d (Refused NoRoom) (Line (length (lineText s at)) (lineTaken s at)) → room < length (lineText s at)
+lacks-by s at room e true f h = f refl
+lacks-by s at room e false f h = let z : _≡_ {A = ℕ} 0 1 = cc in absurd (omega arith)
+
+pub lacks : (s : List ℕ) (at room : ℕ) (e : Refusal) → length s ≤ offsets → at < length s → Refused e ≡ answerOf s at room → room < length (lineText s at)
+unfolding answerOf
+lacks s at room e h k p =
+    lacks-by s at room e (ltb room (length (lineText s at))) (λ d. ltb-true room (length (lineText s at)) d)
+    (p ∙ simp (le-ltb offsets (length s) h, le-ltb (length s) at (omega arith), ne-eqb (length s) at (λ e. omega arith)))

@@ -1,0 +1,230 @@
+-- No line is longer than `longest`: each text's length is computed case by case, and added up along the line.
+-- Assumes nothing.
+use mathlib.Core.Path.{_≡_, refl}
+use mathlib.Core.List.{List, [], _∷_, _++_}
+use Prim.Native.Nat.{ℕ, _+_, _*_, _-_, _≤_}
+use native.Mathlib.Omega.{arith}
+use lib.Dec.{lit≤}
+use lib.ListN.{length, take, getD, drop, replicate, length-append, length-take, length-replicate}
+use Rattle.mrc_instruction.specs.declared.register.RegisterEncoding.{RegisterEncoding}
+use Rattle.mrc_instruction.specs.declared.register.RegisterEncoding.the-variants.{AlAx, ClCx, DlDx, BlBx, AhSp, ChBp, DhSi, BhDi}
+use Rattle.mrc_instruction.specs.declared.register.Segment.{Segment}
+use Rattle.mrc_instruction.specs.declared.register.Segment.the-variants.{ES, CS, SS, DS}
+use Rattle.mrc_instruction.specs.declared.operand.OperandSize.{OperandSize}
+use Rattle.mrc_instruction.specs.declared.operand.OperandSize.the-variants.{Byte, Word}
+use Rattle.mrc_instruction.specs.declared.operand.AddressingMode.{AddressingMode}
+use Rattle.mrc_instruction.specs.declared.operand.AddressingMode.the-variants.{BxSi, BxDi, BpSi, BpDi, Si, Di, Bp, Bx}
+use Rattle.mrc_instruction.specs.declared.operand.Displacement.{Displacement}
+use Rattle.mrc_instruction.specs.declared.operand.Immediate.{Immediate}
+use Rattle.mrc_instruction.specs.declared.operand.Operand.{Operand}
+use Rattle.mrc_instruction.specs.declared.operation.Operation.{Operation}
+use Rattle.mrc_instruction.specs.declared.operation.Operation.the-variants.{MOV, PUSH, POP, XCHG, IN, OUT, XLATB, LEA, LDS, LES, LAHF, SAHF, PUSHF, POPF, ADD, ADC, INC, AAA, DAA, SUB, SBB, DEC, NEG, CMP, AAS, DAS, MUL, IMUL, AAM, DIV, IDIV, AAD, CBW, CWD, NOT, SHL, SHR, SAR, ROL, ROR, RCL, RCR, AND, TEST, OR, XOR, MOVSB, MOVSW, CMPSB, CMPSW, SCASB, SCASW, LODSB, LODSW, STOSB, STOSW, CALL, JMP, RET, JE, JL, JLE, JB, JBE, JP, JO, JS, JNE, JNL, JNLE, JNB, JNBE, JNP, JNO, JNS, LOOP, LOOPZ, LOOPNZ, JCXZ, INT, INT1, INT3, INTO, IRET, CLC, CMC, STC, CLD, STD, CLI, STI, HLT, WAIT, ESC, LOCK, NOP, SALC}
+use Rattle.mrc_instruction.specs.declared.instruction.OperandSet.{OperandSet}
+use Rattle.mrc_instruction.specs.declared.instruction.Repeat.{Repeat}
+use Rattle.mrc_instruction.specs.declared.instruction.Repeated.{Repeated}
+use Rattle.mrc_instruction.specs.declared.instruction.Instruction.{Instruction}
+use Rattle.mrc_rules.specs.declared.Answer.{Answer}
+use Rattle.mrc_rules.specs.Decode.{decodeAt}
+use Rattle.mrc_line.specs.Text.{bytes, hex2, hex4, pairs, padded, shown, fieldWidth}
+use Rattle.mrc_line.specs.Target.{targetOf}
+use Rattle.mrc_line.specs.Names.{nameOf}
+use Rattle.mrc_line.specs.Operands.{registerText, segmentText, modeText, sizeText, displacementText, immediateText, memoryText, operandText, aloneText, besideText, operandsText}
+use Rattle.mrc_line.specs.Line.{headText, repeatText, instructionText, dbText, stepText, lineText, longest, budget}
+use Rattle.mrc_line.proofs.Put.{pairs-length}
+
+name : (o : Operation) → length (nameOf o) ≤ 6
+name MOV = lit≤ tt
+name PUSH = lit≤ tt
+name POP = lit≤ tt
+name XCHG = lit≤ tt
+name IN = lit≤ tt
+name OUT = lit≤ tt
+name XLATB = lit≤ tt
+name LEA = lit≤ tt
+name LDS = lit≤ tt
+name LES = lit≤ tt
+name LAHF = lit≤ tt
+name SAHF = lit≤ tt
+name PUSHF = lit≤ tt
+name POPF = lit≤ tt
+name ADD = lit≤ tt
+name ADC = lit≤ tt
+name INC = lit≤ tt
+name AAA = lit≤ tt
+name DAA = lit≤ tt
+name SUB = lit≤ tt
+name SBB = lit≤ tt
+name DEC = lit≤ tt
+name NEG = lit≤ tt
+name CMP = lit≤ tt
+name AAS = lit≤ tt
+name DAS = lit≤ tt
+name MUL = lit≤ tt
+name IMUL = lit≤ tt
+name AAM = lit≤ tt
+name DIV = lit≤ tt
+name IDIV = lit≤ tt
+name AAD = lit≤ tt
+name CBW = lit≤ tt
+name CWD = lit≤ tt
+name NOT = lit≤ tt
+name SHL = lit≤ tt
+name SHR = lit≤ tt
+name SAR = lit≤ tt
+name ROL = lit≤ tt
+name ROR = lit≤ tt
+name RCL = lit≤ tt
+name RCR = lit≤ tt
+name AND = lit≤ tt
+name TEST = lit≤ tt
+name OR = lit≤ tt
+name XOR = lit≤ tt
+name MOVSB = lit≤ tt
+name MOVSW = lit≤ tt
+name CMPSB = lit≤ tt
+name CMPSW = lit≤ tt
+name SCASB = lit≤ tt
+name SCASW = lit≤ tt
+name LODSB = lit≤ tt
+name LODSW = lit≤ tt
+name STOSB = lit≤ tt
+name STOSW = lit≤ tt
+name CALL = lit≤ tt
+name JMP = lit≤ tt
+name RET = lit≤ tt
+name JE = lit≤ tt
+name JL = lit≤ tt
+name JLE = lit≤ tt
+name JB = lit≤ tt
+name JBE = lit≤ tt
+name JP = lit≤ tt
+name JO = lit≤ tt
+name JS = lit≤ tt
+name JNE = lit≤ tt
+name JNL = lit≤ tt
+name JNLE = lit≤ tt
+name JNB = lit≤ tt
+name JNBE = lit≤ tt
+name JNP = lit≤ tt
+name JNO = lit≤ tt
+name JNS = lit≤ tt
+name LOOP = lit≤ tt
+name LOOPZ = lit≤ tt
+name LOOPNZ = lit≤ tt
+name JCXZ = lit≤ tt
+name INT = lit≤ tt
+name INT1 = lit≤ tt
+name INT3 = lit≤ tt
+name INTO = lit≤ tt
+name IRET = lit≤ tt
+name CLC = lit≤ tt
+name CMC = lit≤ tt
+name STC = lit≤ tt
+name CLD = lit≤ tt
+name STD = lit≤ tt
+name CLI = lit≤ tt
+name STI = lit≤ tt
+name HLT = lit≤ tt
+name WAIT = lit≤ tt
+name ESC = lit≤ tt
+name LOCK = lit≤ tt
+name NOP = lit≤ tt
+name SALC = lit≤ tt
+
+register : (r : RegisterEncoding) (size : OperandSize) → length (registerText r size) ≡ 2
+register AlAx Byte = refl
+register ClCx Byte = refl
+register DlDx Byte = refl
+register BlBx Byte = refl
+register AhSp Byte = refl
+register ChBp Byte = refl
+register DhSi Byte = refl
+register BhDi Byte = refl
+register AlAx Word = refl
+register ClCx Word = refl
+register DlDx Word = refl
+register BlBx Word = refl
+register AhSp Word = refl
+register ChBp Word = refl
+register DhSi Word = refl
+register BhDi Word = refl
+
+segment : (s : Segment) → length (segmentText s) ≡ 2
+segment ES = refl
+segment CS = refl
+segment SS = refl
+segment DS = refl
+
+mode : (m : AddressingMode) → length (modeText m) ≤ 5
+mode BxSi = lit≤ tt
+mode BxDi = lit≤ tt
+mode BpSi = lit≤ tt
+mode BpDi = lit≤ tt
+mode Si = lit≤ tt
+mode Di = lit≤ tt
+mode Bp = lit≤ tt
+mode Bx = lit≤ tt
+
+size : (z : OperandSize) → length (sizeText z) ≡ 5
+size Byte = refl
+size Word = refl
+
+displacement : (d : Displacement) → length (displacementText d) ≤ 5
+displacement Displacement.None = lit≤ tt
+displacement (Displacement.Byte d) = lit≤ tt
+displacement (Displacement.Word d) = lit≤ tt
+
+immediate : (i : Immediate) → length (immediateText i) ≤ 4
+immediate (Immediate.Byte b) = lit≤ tt
+immediate (Immediate.Word w) = lit≤ tt
+
+memory : (z : OperandSize) (s : Segment) (address : List ℕ) → length address ≤ 10 → length (memoryText z s address) ≤ 20
+memory z s address h =
+    omega (arith, size z, segment s, length-append (sizeText z) (segmentText s ++ (bytes ":[" ++ (address ++ bytes "]"))), length-append (segmentText s) (bytes ":[" ++ (address ++ bytes "]")), length-append address (bytes "]"))
+
+-- an operand, where what a displacement prints as is short enough
+operand : (f : Displacement → List ℕ) → ((d : Displacement) → length (f d) ≤ 20) → (o : Operand) → length (operandText f o) ≤ 20
+operand f h (Operand.Direct s offset z) = memory z s (hex4 offset) (lit≤ tt)
+operand f h (Operand.Indirect s m d z) =
+    memory z s (modeText m ++ displacementText d) (omega (arith, mode m, displacement d, length-append (modeText m) (displacementText d)))
+operand f h (Operand.Register r) = omega (arith, register (r .0) (r .1))
+operand f h (Operand.Segment s) = omega (arith, segment s)
+operand f h (Operand.Immediate i) = omega (arith, immediate i)
+operand f h (Operand.Displacement d) = h d
+operand f h (Operand.SegmentAndOffset a) = lit≤ tt
+
+beside : (d : Displacement) → length (besideText d) ≤ 20
+beside Displacement.None = lit≤ tt
+beside (Displacement.Byte d) = lit≤ tt
+beside (Displacement.Word d) = lit≤ tt
+
+operands : (start taken : ℕ) (o : OperandSet) → length (operandsText start taken o) ≤ 43
+operands start taken OperandSet.None = lit≤ tt
+operands start taken (OperandSet.Destination d) = omega (arith, operand (λ d. hex4 (targetOf start taken d)) (λ d. lit≤ tt) d)
+operands start taken (OperandSet.DestinationAndSource d s) =
+    omega (arith, operand besideText beside d, operand besideText beside s, length-append (operandText besideText d) (bytes ", " ++ operandText besideText s))
+
+head : (start : ℕ) (taken : List ℕ) → length (headText start taken) ≡ 29
+unfolding headText
+head start taken =
+    let p = pairs (take shown taken) in
+    omega (arith, pairs-length (take shown taken), length-take shown taken, length-append p (replicate (fieldWidth - length p) 32), length-replicate {A = ℕ} (fieldWidth - length p) 32, length-append (padded fieldWidth p) (bytes "  "))
+
+repeated : (r : Repeated) → length (repeatText r) ≤ 6
+repeated Repeated.None = lit≤ tt
+repeated (Repeated.Some Repeat.Equal) = lit≤ tt
+repeated (Repeated.Some Repeat.NotEqual) = lit≤ tt
+
+step : (s : List ℕ) (at : ℕ) (a : Answer) → length (stepText s at a) ≤ longest
+unfolding instructionText dbText
+step s at (Answer.Decoded i n p) =
+    let t = take n (drop at s) in
+    let o = operandsText at (length t) (i .operands) in
+    omega (arith, head at t, repeated (i .repeat), name (i .operation), operands at (length t) (i .operands), length-append (headText at t) (repeatText (i .repeat) ++ (nameOf (i .operation) ++ (o ++ (10 ∷ [])))), length-append (repeatText (i .repeat)) (nameOf (i .operation) ++ (o ++ (10 ∷ []))), length-append (nameOf (i .operation)) (o ++ (10 ∷ [])), length-append o (10 ∷ []))
+step s at (Answer.Refused e n p) =
+    let b = getD s at 0 in
+    omega (arith, head at (b ∷ []), length-append (headText at (b ∷ [])) (bytes "DB " ++ (hex2 b ++ (10 ∷ []))))
+
+pub line-longest : (s : List ℕ) (at : ℕ) → length (lineText s at) ≤ longest
+unfolding lineText
+line-longest s at = step s at (decodeAt s at budget)

@@ -1,0 +1,13 @@
+pub mod Put
+pub mod Signed
+pub mod Trimmed
+pub mod Rows
+pub mod Takes
+pub mod Lines
+pub mod Pages
+pub mod Lengths
+pub mod Answers
+pub mod Paging
+pub mod Settled
+pub mod Example
+pub mod Main

@@ -1,0 +1,57 @@
+-- What is shown of the listing line. Each theorem cites its law.
+-- Assumes nothing.
+use mathlib.Core.Path.{_≡_}
+use mathlib.Core.List.{List, _++_, map}
+use Prim.Native.Nat.{ℕ, _<_, _≤_}
+use native.Mathlib.Nat.{le-trans}
+use lib.ListN.{length}
+use Rattle.mrc_instruction.specs.declared.errors.Refusal.{Refusal}
+use Rattle.mrc_instruction.specs.Promise.{ExactlyOne}
+use Rattle.mrc_line.specs.declared.line.LineAnswer.{LineAnswer}
+use Rattle.mrc_line.specs.declared.page.Page.{Page}
+use Rattle.mrc_line.specs.Text.{bytes}
+use Rattle.mrc_line.specs.Target.{offsets}
+use Rattle.mrc_line.specs.Line.{lineText, lineEnd, longest, Listed}
+use Rattle.mrc_line.specs.Page.{linesOf, textOf, bytesOf, takenOf, pagesFrom, Paged}
+use Rattle.mrc_line.proofs.Settled as Settled
+use Rattle.mrc_line.proofs.Lengths as Lengths
+use Rattle.mrc_line.proofs.Lines as Lines
+use Rattle.mrc_line.proofs.Pages as Pages
+use Rattle.mrc_line.proofs.Example as Example
+
+-- "For each public function the promise determines the answer and the lent buffer's final bytes on all inputs, refused ones too"
+pub line-settled : (image : List ℕ) (at : ℕ) (out : List ℕ) → ExactlyOne {A = LineAnswer × List ℕ} (λ p. Listed image at out (p .0) (p .1))
+line-settled = Settled.line-settled
+
+pub page-settled : (image : List ℕ) (at : ℕ) (out : List ℕ) → ExactlyOne {A = Page × List ℕ} (λ p. Paged image at out (p .0) (p .1))
+page-settled = Settled.page-settled
+
+-- "a refused line call changes no byte of its buffer"
+pub refused-unchanged : (image : List ℕ) (at : ℕ) (out : List ℕ) (e : Refusal) (done : List ℕ) → Listed image at out (LineAnswer.Refused e) done → done ≡ out
+refused-unchanged = Settled.unchanged
+
+-- no line is longer than `longest`
+pub line-longest : (image : List ℕ) (at : ℕ) → length (lineText image at) ≤ longest
+line-longest = Lengths.line-longest
+
+-- "Over an image, the bytes accounted for by all lines add up to its length, each byte once."
+pub each-byte-once : (image : List ℕ) → bytesOf image (linesOf image) ≡ image
+each-byte-once = Lines.each-once
+
+pub bytes-add-up : (image : List ℕ) → takenOf image (linesOf image) ≡ length image
+bytes-add-up = Lines.add-up
+
+-- pages one after the other are the listing, whatever the buffer's size, where every line fits; and where any line does
+pub pages-joined :
+    (image : List ℕ) (room : ℕ) → length image ≤ offsets → ((at : ℕ) → at < length image → length (lineText image at) ≤ room) →
+    pagesFrom (length image) image 0 room ≡ textOf image (linesOf image)
+pages-joined = Pages.pages-joined
+
+pub pages-joined-at :
+    (image : List ℕ) (room : ℕ) → length image ≤ offsets → longest ≤ room →
+    pagesFrom (length image) image 0 room ≡ textOf image (linesOf image)
+pages-joined-at image room h k = Pages.pages-joined image room h (λ at l. le-trans (Lengths.line-longest image at) k)
+
+-- "Input 26 8B 47 FE F3 A4 75 F8 83 C0 FF 60 8B prints exactly" these six lines
+pub example : map (lineText Example.image) (linesOf Example.image) ≡ map (λ t. bytes t ++ lineEnd) Example.printed
+example = Example.six-lines

@@ -1,0 +1,84 @@
+-- Pages joined are the listing: what a page leaves out is what the lines from its end on are.
+-- Assumes nothing.
+use mathlib.Core.Path.{_≡_, refl, sym, ap, _∙_}
+use mathlib.Core.Bool.{Bool, true, false, cond}
+use mathlib.Core.List.{List, [], _∷_, _++_, append-assoc}
+use Prim.Native.Nat.{ℕ, zero, suc, _+_, _-_, _<_, _≤_}
+use native.Mathlib.Omega.{arith}
+use borrow.Author.Tests.{le-ltb, lt-ltb, le-leb, lt-leb, ltb-true, ltb-false}
+use lib.Dec.{ltb, leb}
+use lib.ListN.{length}
+use Rattle.mrc_line.specs.Target.{offsets}
+use Rattle.mrc_line.specs.Line.{lineText, lineTaken}
+use Rattle.mrc_line.specs.Page.{linesFrom, linesOf, textOf, takenOf, fitting, pageOf, pagesFrom}
+use Rattle.mrc_line.proofs.Takes.{Takes, line-takes}
+use Rattle.mrc_line.proofs.Lines.{lines-more, lines-past, along, enough}
+
+-- a line that fits, and one that does not
+pub fits : (s : List ℕ) (room at : ℕ) (lines : List ℕ) → length (lineText s at) ≤ room → fitting s room (at ∷ lines) ≡ at ∷ fitting s (room - length (lineText s at)) lines
+fits s room at lines h = simp (le-leb (length (lineText s at)) room h)
+
+pub stops : (s : List ℕ) (room at : ℕ) (lines : List ℕ) → room < length (lineText s at) → fitting s room (at ∷ lines) ≡ []
+stops s room at lines h = simp (lt-leb (length (lineText s at)) room h)
+
+pub page-is : (s : List ℕ) (at room : ℕ) → length s ≤ offsets → pageOf s at room ≡ fitting s room (linesFrom (length s) s at)
+unfolding pageOf
+page-is s at room h = simp (le-ltb offsets (length s) h)
+
+pub page-none : (s : List ℕ) (at room : ℕ) → offsets < length s → pageOf s at room ≡ []
+unfolding pageOf
+page-none s at room h = simp (lt-ltb offsets (length s) h)
+
+-- the text from a place on: what fits, and the text from where that ends on
+abbrev Split : List ℕ → ℕ → ℕ → Type 0
+Split s f at =
+    (room : ℕ) → textOf s (linesFrom f s at)
+    ≡ textOf s (fitting s room (linesFrom f s at)) ++ textOf s (linesFrom (length s) s (at + takenOf s (fitting s room (linesFrom f s at))))
+
+split : (s : List ℕ) (f at : ℕ) → length s ≤ at + f → Split s f at
+split s f at h = along s (Split s) past more f at h
+  where
+    past : (f at : ℕ) → length s ≤ at → Split s f at
+    past f at h room = rw (lines-past f s at h) (sym (ap (textOf s) (lines-past (length s) s (at + 0) (omega arith))))
+
+    more : (f at : ℕ) → at < length s → length s ≤ at + suc f → Takes s at (lineTaken s at) → Split s f (at + lineTaken s at) → Split s (suc f) at
+    more f at l h t i room = rw (lines-more f s at l) (go (leb (length (lineText s at)) room) refl)
+      where
+        go : (b : Bool) → leb (length (lineText s at)) room ≡ b
+            → lineText s at ++ textOf s (linesFrom f s (at + lineTaken s at))
+            ≡ textOf s (cond b (at ∷ fitting s (room - length (lineText s at)) (linesFrom f s (at + lineTaken s at))) [])
+            ++ textOf s (linesFrom (length s) s (at + takenOf s (cond b (at ∷ fitting s (room - length (lineText s at)) (linesFrom f s (at + lineTaken s at))) [])))
+        go true e =
+            let some = fitting s (room - length (lineText s at)) (linesFrom f s (at + lineTaken s at)) in
+            let assoc : at + lineTaken s at + takenOf s some ≡ at + (lineTaken s at + takenOf s some) = omega arith in
+            ap (λ (x : List ℕ). lineText s at ++ x) (i (room - length (lineText s at))) ∙ sym (append-assoc (lineText s at) (textOf s some) _)
+            ∙ ap (λ (n : ℕ). (lineText s at ++ textOf s some) ++ textOf s (linesFrom (length s) s n)) assoc
+        go false e =
+            let here : at ≡ at + 0 = omega arith in
+            sym (ap (textOf s) (lines-more f s at l)) ∙ ap (textOf s) (enough s (suc f) (length s) at h (omega arith))
+            ∙ ap (λ (n : ℕ). textOf s (linesFrom (length s) s n)) here
+
+-- a page whose first line fits moves on
+pub moves : (s : List ℕ) (f at room : ℕ) → at < length s → length (lineText s at) ≤ room → 1 ≤ takenOf s (fitting s room (linesFrom (suc f) s at))
+moves s f at room l h = rw (lines-more f s at l, fits s room at _ h) (omega (arith, line-takes s at l .some))
+
+module _ (s : List ℕ) (room : ℕ) (short : length s ≤ offsets) (every : (at : ℕ) → at < length s → length (lineText s at) ≤ room) where
+  pub pages-from : (f at : ℕ) → length s ≤ at + f → pagesFrom f s at room ≡ textOf s (linesFrom (length s) s at)
+  unfolding pagesFrom
+  pages-from zero at h = sym (ap (textOf s) (lines-past (length s) s at (omega arith)))
+  pages-from (suc f) at h = go (ltb at (length s)) refl (λ at k. pages-from f at k)
+    where
+      go : (b : Bool) → ltb at (length s) ≡ b
+          → ((at : ℕ) → length s ≤ at + f → pagesFrom f s at room ≡ textOf s (linesFrom (length s) s at))
+          → cond b (textOf s (pageOf s at room) ++ pagesFrom f s (at + takenOf s (pageOf s at room)) room) [] ≡ textOf s (linesFrom (length s) s at)
+      go true e again =
+          let l = ltb-true at (length s) e in
+          let page = pageOf s at room in
+          let p : page ≡ fitting s room (linesFrom (length s) s at) = page-is s at room short in
+          let m : 1 ≤ takenOf s page = rw (p, enough s (length s) (suc (length s)) at (omega arith) (omega arith)) (moves s (length s) at room l (every at l)) in
+          ap (λ (x : List ℕ). textOf s page ++ x) (again (at + takenOf s page) (omega arith))
+          ∙ ap (λ (x : List ℕ). textOf s x ++ textOf s (linesFrom (length s) s (at + takenOf s x))) p ∙ sym (split s (length s) at (omega arith) room)
+      go false e again = sym (ap (textOf s) (lines-past (length s) s at (ltb-false at (length s) e)))
+
+  pub pages-joined : pagesFrom (length s) s 0 room ≡ textOf s (linesOf s)
+  pages-joined = pages-from (length s) 0 (omega arith)

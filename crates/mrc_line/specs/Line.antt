@@ -1,0 +1,86 @@
+-- "The listing line": its fields in order, and what a line call answers.
+use mathlib.Core.Path.{_≡_}
+use mathlib.Core.Bool.{cond}
+use mathlib.Core.List.{List, [], _∷_, _++_}
+use Prim.Native.Nat.{ℕ}
+use lib.Dec.{ltb, eqb}
+use lib.ListN.{length, getD, take, drop}
+use Rattle.mrc_instruction.specs.declared.instruction.Repeat.{Repeat}
+use Rattle.mrc_instruction.specs.declared.instruction.Repeated.{Repeated}
+use Rattle.mrc_instruction.specs.declared.instruction.Instruction.{Instruction}
+use Rattle.mrc_instruction.specs.declared.errors.Refusal.{Refusal}
+use Rattle.mrc_rules.specs.declared.Answer.{Answer}
+use Rattle.mrc_rules.specs.Decode.{decodeAt}
+use Rattle.mrc_line.specs.declared.line.LineAnswer.{LineAnswer}
+use Rattle.mrc_line.specs.Target.{offsets}
+use Rattle.mrc_line.specs.Text.{bytes, hex2, hex4, pairs, padded, shown, fieldWidth}
+use Rattle.mrc_line.specs.Names.{nameOf}
+use Rattle.mrc_line.specs.Operands.{operandsText}
+
+-- "start offset, four upper-case hex digits; two spaces; the first seven bytes taken, each two digits and a space, padded to 21 characters;
+-- two spaces"
+unfoldable pub headText : ℕ → List ℕ → List ℕ
+headText start taken = hex4 start ++ (bytes "  " ++ (padded fieldWidth (pairs (take shown taken)) ++ bytes "  "))
+
+-- "`REPE ` or `REPNE ` if repeated"
+abbrev pub repeatText : Repeated → List ℕ
+repeatText Repeated.None = []
+repeatText (Repeated.Some Repeat.Equal) = bytes "REPE "
+repeatText (Repeated.Some Repeat.NotEqual) = bytes "REPNE "
+
+-- LF
+abbrev pub lineEnd : List ℕ
+lineEnd = 10 ∷ []
+
+-- the line of an instruction, with the bytes that it takes
+unfoldable pub instructionText : ℕ → List ℕ → Instruction → List ℕ
+instructionText start taken i =
+    headText start taken ++ (repeatText (i .repeat) ++ (nameOf (i .operation) ++ (operandsText start (length taken) (i .operands) ++ lineEnd)))
+
+-- "A refused decode lists its first byte, alone in the byte field, as `DB XX`"
+unfoldable pub dbText : ℕ → ℕ → List ℕ
+dbText start b = headText start (b ∷ []) ++ (bytes "DB " ++ (hex2 b ++ lineEnd))
+
+-- the line of what was decoded at a place of an image
+abbrev pub stepText : List ℕ → ℕ → Answer → List ℕ
+stepText s at (Answer.Decoded i n p) = instructionText at (take n (drop at s)) i
+stepText s at (Answer.Refused e n p) = dbText at (getD s at 0)
+
+-- the bytes that it accounts for: "A refused decode .. answers 1 taken, and the next line starts one byte on"
+abbrev pub stepTaken : Answer → ℕ
+stepTaken (Answer.Decoded i n p) = n
+stepTaken (Answer.Refused e n p) = 1
+
+-- the most bytes that a line has, whatever the record
+abbrev pub longest : ℕ
+longest = 85
+
+-- "Budget 15 for it and the line call."
+abbrev pub budget : ℕ
+budget = 15
+
+-- the line at a place of an image, and the bytes that it accounts for
+unfoldable pub lineText : List ℕ → ℕ → List ℕ
+lineText s at = stepText s at (decodeAt s at budget)
+
+unfoldable pub lineTaken : List ℕ → ℕ → ℕ
+lineTaken s at = stepTaken (decodeAt s at budget)
+
+-- "Order in a line call: 13, 11, 1 (position equal to the length), 12."; else the line's length and the bytes taken
+unfoldable pub answerOf : List ℕ → ℕ → ℕ → LineAnswer
+answerOf s at room =
+    cond (ltb offsets (length s)) (LineAnswer.Refused Refusal.ImageTooLong)
+    (cond (ltb (length s) at) (LineAnswer.Refused Refusal.OutsideInput)
+    (cond (eqb (length s) at) (LineAnswer.Refused Refusal.EndOfInput)
+    (cond (ltb room (length (lineText s at))) (LineAnswer.Refused Refusal.NoRoom)
+    (LineAnswer.Line (length (lineText s at)) (lineTaken s at)))))
+
+-- what a buffer holds after an answer: the line, and "the buffer beyond the line unchanged"; "a refused line call changes no byte"
+abbrev pub after : LineAnswer → List ℕ → List ℕ → List ℕ
+after (LineAnswer.Line len taken) text out = text ++ drop len out
+after (LineAnswer.Refused e) text out = out
+
+-- a line call's answer r, and its buffer before the call and after it
+pub record Listed (s : List ℕ) (at : ℕ) (out : List ℕ) (r : LineAnswer) (done : List ℕ) : Type 0 where
+  pub answer : r ≡ answerOf s at (length out)
+  pub bytes : done ≡ after (answerOf s at (length out)) (lineText s at) out

@@ -1,0 +1,105 @@
+-- The text of operands: "register and segment names; `WORD ES:[1234]`; `BYTE DS:[BX+SI-80]`, sign and magnitude in two or four digits;
+-- immediates in two or four digits; `SSSS:OOOO`".
+use mathlib.Core.List.{List, [], _∷_, _++_}
+use Prim.Native.Nat.{ℕ}
+use lib.IntN.{ℤ, pos, negsuc, natAbs}
+use Rattle.mrc_instruction.specs.declared.register.RegisterEncoding.{RegisterEncoding}
+use Rattle.mrc_instruction.specs.declared.register.RegisterEncoding.the-variants.{AlAx, ClCx, DlDx, BlBx, AhSp, ChBp, DhSi, BhDi}
+use Rattle.mrc_instruction.specs.declared.register.Segment.{Segment}
+use Rattle.mrc_instruction.specs.declared.register.Segment.the-variants.{ES, CS, SS, DS}
+use Rattle.mrc_instruction.specs.declared.operand.OperandSize.{OperandSize}
+use Rattle.mrc_instruction.specs.declared.operand.OperandSize.the-variants.{Byte, Word}
+use Rattle.mrc_instruction.specs.declared.operand.AddressingMode.{AddressingMode}
+use Rattle.mrc_instruction.specs.declared.operand.AddressingMode.the-variants.{BxSi, BxDi, BpSi, BpDi, Si, Di, Bp, Bx}
+use Rattle.mrc_instruction.specs.declared.operand.Displacement.{Displacement}
+use Rattle.mrc_instruction.specs.declared.operand.Immediate.{Immediate}
+use Rattle.mrc_instruction.specs.declared.operand.Operand.{Operand}
+use Rattle.mrc_instruction.specs.declared.instruction.OperandSet.{OperandSet}
+use Rattle.mrc_line.specs.Text.{bytes, hex2, hex4}
+use Rattle.mrc_line.specs.Target.{targetOf}
+
+-- "register and segment names"
+abbrev pub registerText : RegisterEncoding → OperandSize → List ℕ
+registerText AlAx Byte = bytes "AL"
+registerText ClCx Byte = bytes "CL"
+registerText DlDx Byte = bytes "DL"
+registerText BlBx Byte = bytes "BL"
+registerText AhSp Byte = bytes "AH"
+registerText ChBp Byte = bytes "CH"
+registerText DhSi Byte = bytes "DH"
+registerText BhDi Byte = bytes "BH"
+registerText AlAx Word = bytes "AX"
+registerText ClCx Word = bytes "CX"
+registerText DlDx Word = bytes "DX"
+registerText BlBx Word = bytes "BX"
+registerText AhSp Word = bytes "SP"
+registerText ChBp Word = bytes "BP"
+registerText DhSi Word = bytes "SI"
+registerText BhDi Word = bytes "DI"
+
+abbrev pub segmentText : Segment → List ℕ
+segmentText ES = bytes "ES"
+segmentText CS = bytes "CS"
+segmentText SS = bytes "SS"
+segmentText DS = bytes "DS"
+
+abbrev pub modeText : AddressingMode → List ℕ
+modeText BxSi = bytes "BX+SI"
+modeText BxDi = bytes "BX+DI"
+modeText BpSi = bytes "BP+SI"
+modeText BpDi = bytes "BP+DI"
+modeText Si = bytes "SI"
+modeText Di = bytes "DI"
+modeText Bp = bytes "BP"
+modeText Bx = bytes "BX"
+
+abbrev pub sizeText : OperandSize → List ℕ
+sizeText Byte = bytes "BYTE "
+sizeText Word = bytes "WORD "
+
+-- "sign and magnitude in two or four digits"
+abbrev pub signOf : ℤ → ℕ
+signOf (pos n) = 43
+signOf (negsuc n) = 45
+
+abbrev pub displacementText : Displacement → List ℕ
+displacementText Displacement.None = []
+displacementText (Displacement.Byte d) = signOf d ∷ hex2 (natAbs d)
+displacementText (Displacement.Word d) = signOf d ∷ hex4 (natAbs d)
+
+-- "immediates in two or four digits"
+abbrev pub immediateText : Immediate → List ℕ
+immediateText (Immediate.Byte b) = hex2 b
+immediateText (Immediate.Word w) = hex4 w
+
+-- "`WORD ES:[1234]`; `BYTE DS:[BX+SI-80]`"
+abbrev pub memoryText : OperandSize → Segment → List ℕ → List ℕ
+memoryText size segment address = sizeText size ++ (segmentText segment ++ (bytes ":[" ++ (address ++ bytes "]")))
+
+-- an operand, by what a displacement prints as
+abbrev pub operandText : (Displacement → List ℕ) → Operand → List ℕ
+operandText asDisplacement (Operand.Direct segment offset size) = memoryText size segment (hex4 offset)
+operandText asDisplacement (Operand.Indirect segment mode displacement size) =
+    memoryText size segment (modeText mode ++ displacementText displacement)
+operandText asDisplacement (Operand.Register register) = registerText (register .0) (register .1)
+operandText asDisplacement (Operand.Segment segment) = segmentText segment
+operandText asDisplacement (Operand.Immediate immediate) = immediateText immediate
+operandText asDisplacement (Operand.Displacement displacement) = asDisplacement displacement
+operandText asDisplacement (Operand.SegmentAndOffset address) = hex4 (address .segment) ++ (bytes ":" ++ hex4 (address .offset))
+
+-- "A destination displacement prints as a target": one that stands alone
+abbrev pub aloneText : ℕ → ℕ → Operand → List ℕ
+aloneText start taken = operandText (λ d. hex4 (targetOf start taken d))
+
+-- beside another operand a displacement prints as sign and magnitude, and none as +00; no decode has one there
+abbrev pub besideText : Displacement → List ℕ
+besideText Displacement.None = bytes "+00"
+besideText (Displacement.Byte d) = displacementText (Displacement.Byte d)
+besideText (Displacement.Word d) = displacementText (Displacement.Word d)
+
+-- "if operands, a space and them, joined by `, `": the destination before the source
+abbrev pub operandsText : ℕ → ℕ → OperandSet → List ℕ
+operandsText start taken OperandSet.None = []
+operandsText start taken (OperandSet.Destination destination) = bytes " " ++ aloneText start taken destination
+operandsText start taken (OperandSet.DestinationAndSource destination source) =
+    bytes " " ++ (operandText besideText destination ++ (bytes ", " ++ operandText besideText source))

@@ -1,0 +1,11 @@
+// One listing line, and pages of lines.
+pub mod line;
+mod memory;
+mod names;
+mod operands;
+pub mod page;
+mod registers;
+mod step;
+mod target;
+mod text;
+mod write;

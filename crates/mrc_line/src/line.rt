@@ -1,0 +1,31 @@
+// The line call.
+use crate::names::table;
+use crate::write::write_line;
+use mrc_instruction::errors::Refusal;
+ghost use Rattle.mrc_line.specs.Line.{Listed};
+
+// The line's length and the bytes that it accounts for, or why there is no line.
+pub enum LineAnswer {
+    Line { len: usize, taken: usize },
+    Refused(Refusal),
+}
+
+// The most bytes that an image has: one for each offset.
+pub const OFFSETS: usize = 65536;
+
+// Writes the line at a place of the image, with its LF, and answers its length and the bytes taken. A refused call changes no byte.
+pub fn line(image: &[u8], at: usize, out: &mut [u8]) -> LineAnswer
+    ensures { λ r. ⌜ Listed (now (image .entry)) at (now (out .entry)) r (now (out .exit)) ⌝ }
+{
+    if OFFSETS < image.len() {
+        return LineAnswer::Refused(Refusal::ImageTooLong);
+    }
+    if image.len() < at {
+        return LineAnswer::Refused(Refusal::OutsideInput);
+    }
+    if image.len() == at {
+        return LineAnswer::Refused(Refusal::EndOfInput);
+    }
+    let names = table();
+    write_line(out, &names, image, at)
+}

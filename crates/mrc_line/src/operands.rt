@@ -1,0 +1,110 @@
+// The text of operands, the destination before the source.
+use crate::memory::put_direct;
+use crate::memory::put_displacement;
+use crate::memory::put_indirect;
+use crate::registers::put_register;
+use crate::registers::put_segment;
+use crate::target::target;
+use crate::text::put_byte;
+use crate::text::put_bytes;
+use crate::text::put_hex2;
+use crate::text::put_hex4;
+use mrc_instruction::address::Address;
+use mrc_instruction::instruction::OperandSet;
+use mrc_instruction::operand::Displacement;
+use mrc_instruction::operand::Immediate;
+use mrc_instruction::operand::Operand;
+ghost use mathlib.Core.List.{_++_};
+ghost use Prim.Native.Nat.{_+_, _≤_};
+ghost use lib.ListN.{length};
+ghost use Rattle.mrc_line.specs.Text.{Put, bytes, hex4};
+ghost use Rattle.mrc_line.specs.Operands.{immediateText, besideText, operandText, aloneText, operandsText};
+
+// Two or four digits.
+fn put_immediate(buf: &mut [u8], at: usize, immediate: Immediate) -> usize
+    requires { ⌜ at + 4 ≤ length (now buf) ⌝ }
+    ensures { λ r. ⌜ Put 4 (now (buf .entry)) at (immediateText immediate) (now (buf .exit)) r ⌝ }
+{
+    match immediate {
+        Immediate::Byte(b) => put_hex2(buf, at, b),
+        Immediate::Word(w) => put_hex4(buf, at, w),
+    }
+}
+
+// `SSSS:OOOO`.
+fn put_address(buf: &mut [u8], at: usize, address: Address) -> usize
+    requires { ⌜ at + 9 ≤ length (now buf) ⌝ }
+    ensures { λ r. ⌜ Put 9 (now (buf .entry)) at (hex4 (address .segment) ++ (bytes ":" ++ hex4 (address .offset))) (now (buf .exit)) r ⌝ }
+{
+    let s = put_hex4(buf, at, address.segment);
+    let c = put_byte(buf, s, b':');
+    put_hex4(buf, c, address.offset)
+}
+
+// A displacement beside another operand: sign and magnitude, and none as +00.
+fn put_beside(buf: &mut [u8], at: usize, displacement: Displacement) -> usize
+    requires { ⌜ at + 5 ≤ length (now buf) ⌝ }
+    ensures { λ r. ⌜ Put 5 (now (buf .entry)) at (besideText displacement) (now (buf .exit)) r ⌝ }
+{
+    match displacement {
+        Displacement::None => put_bytes(buf, at, b"+00"),
+        Displacement::Byte(_) => put_displacement(buf, at, displacement),
+        Displacement::Word(_) => put_displacement(buf, at, displacement),
+    }
+}
+
+// An operand beside another.
+fn put_operand(buf: &mut [u8], at: usize, operand: Operand) -> usize
+    requires { ⌜ at + 20 ≤ length (now buf) ⌝ }
+    ensures { λ r. ⌜ Put 20 (now (buf .entry)) at (operandText besideText operand) (now (buf .exit)) r ⌝ }
+{
+    match operand {
+        Operand::Direct(segment, offset, size) => put_direct(buf, at, segment, offset, size),
+        Operand::Indirect(segment, mode, displacement, size) => {
+            put_indirect(buf, at, segment, mode, displacement, size)
+        }
+        Operand::Register(register) => put_register(buf, at, register),
+        Operand::Segment(segment) => put_segment(buf, at, segment),
+        Operand::Immediate(immediate) => put_immediate(buf, at, immediate),
+        Operand::Displacement(displacement) => put_beside(buf, at, displacement),
+        Operand::SegmentAndOffset(address) => put_address(buf, at, address),
+    }
+}
+
+// A destination that stands alone: a displacement prints as its target.
+fn put_alone(buf: &mut [u8], at: usize, start: u16, taken: u16, destination: Operand) -> usize
+    requires { ⌜ at + 20 ≤ length (now buf) ⌝ }
+    ensures { λ r. ⌜ Put 20 (now (buf .entry)) at (aloneText start taken destination) (now (buf .exit)) r ⌝ }
+{
+    match destination {
+        Operand::Direct(_, _, _) => put_operand(buf, at, destination),
+        Operand::Indirect(_, _, _, _) => put_operand(buf, at, destination),
+        Operand::Register(_) => put_operand(buf, at, destination),
+        Operand::Segment(_) => put_operand(buf, at, destination),
+        Operand::Immediate(_) => put_operand(buf, at, destination),
+        Operand::Displacement(displacement) => {
+            put_hex4(buf, at, target(start, taken, displacement))
+        }
+        Operand::SegmentAndOffset(_) => put_operand(buf, at, destination),
+    }
+}
+
+// A space and the operands, joined by a comma and a space, of an instruction that starts at `start` and takes `taken` bytes.
+pub fn put_operands(buf: &mut [u8], at: usize, start: u16, taken: u16, operands: OperandSet) -> usize
+    requires { ⌜ at + 43 ≤ length (now buf) ⌝ }
+    ensures { λ r. ⌜ Put 43 (now (buf .entry)) at (operandsText start taken operands) (now (buf .exit)) r ⌝ }
+{
+    match operands {
+        OperandSet::None => at,
+        OperandSet::Destination(destination) => {
+            let d = put_byte(buf, at, b' ');
+            put_alone(buf, d, start, taken, destination)
+        }
+        OperandSet::DestinationAndSource(destination, source) => {
+            let d = put_byte(buf, at, b' ');
+            let c = put_operand(buf, d, destination);
+            let s = put_bytes(buf, c, b", ");
+            put_operand(buf, s, source)
+        }
+    }
+}

@@ -1,0 +1,36 @@
+// A page: as many whole lines as fit into a buffer.
+use crate::line::LineAnswer;
+use crate::line::OFFSETS;
+use crate::names::table;
+use crate::write::write_line;
+ghost use Rattle.mrc_line.specs.Page.{Paged};
+
+// How many bytes were written, and the place at which the next line starts.
+pub struct Page {
+    pub len: usize,
+    pub next: usize,
+}
+
+// Writes as many whole lines as fit, from a place of the image on.
+pub fn write_page(image: &[u8], at: usize, out: &mut [u8]) -> Page
+    ensures { λ r. ⌜ Paged (now (image .entry)) at (now (out .entry)) r (now (out .exit)) ⌝ }
+{
+    if OFFSETS < image.len() {
+        return Page { len: 0, next: at };
+    }
+    let names = table();
+    let mut len = 0;
+    let mut next = at;
+    while next < image.len() {
+        match write_line(&mut out[len..], &names, image, next) {
+            LineAnswer::Line { len: more, taken } => {
+                len += more;
+                next += taken;
+            }
+            LineAnswer::Refused(_) => {
+                return Page { len, next };
+            }
+        }
+    }
+    Page { len, next }
+}

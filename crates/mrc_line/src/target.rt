@@ -1,0 +1,49 @@
+// Displacements as sign and magnitude, and the target of a branch.
+use mrc_instruction::operand::Displacement;
+ghost use mathlib.Core.Path.{_≡_};
+ghost use lib.IntN.{natAbs};
+ghost use Rattle.mrc_line.specs.Target.{movedBy, targetOf};
+ghost use Rattle.mrc_line.specs.Operands.{signOf};
+
+// The magnitude, that of -32,768 included.
+pub fn magnitude(d: i16) -> u16
+    ensures { λ r. ⌜ r ≡ natAbs d ⌝ }
+{
+    let wide = d as i32;
+    if wide < 0 {
+        (0 - wide) as u16
+    } else {
+        wide as u16
+    }
+}
+
+// The sign that is printed.
+pub fn sign(d: i16) -> u8
+    ensures { λ r. ⌜ r ≡ signOf d ⌝ }
+{
+    if d < 0 { b'-' } else { b'+' }
+}
+
+// An offset and a displacement, the sum wrapping at 65,536.
+fn moved(from: u16, d: i16) -> u16
+    ensures { λ r. ⌜ r ≡ movedBy from d ⌝ }
+{
+    let size = magnitude(d);
+    if d < 0 {
+        std::num::wrapping_sub_u16(from, size)
+    } else {
+        std::num::wrapping_add_u16(from, size)
+    }
+}
+
+// start + taken + displacement, the sum wrapping at 65,536.
+pub fn target(start: u16, taken: u16, d: Displacement) -> u16
+    ensures { λ r. ⌜ r ≡ targetOf start taken d ⌝ }
+{
+    let next = std::num::wrapping_add_u16(start, taken);
+    match d {
+        Displacement::None => next,
+        Displacement::Byte(b) => moved(next, b as i16),
+        Displacement::Word(w) => moved(next, w),
+    }
+}

@@ -1,0 +1,43 @@
+// A line at a place that is within the image, written whole or not at all.
+use crate::line::LineAnswer;
+use crate::step::put_step;
+use crate::text::put_bytes;
+use mrc_decoder::decode::decode_instruction;
+use mrc_instruction::errors::Refusal;
+ghost use mathlib.Core.Path.{_≡_};
+ghost use mathlib.Core.List.{map};
+ghost use Prim.Native.Nat.{_<_, _≤_};
+ghost use lib.ListN.{length};
+ghost use Rattle.mrc_line.specs.Target.{offsets};
+ghost use Rattle.mrc_line.specs.Names.{rowOf, operations};
+ghost use Rattle.mrc_line.specs.Line.{Listed};
+
+// The prefix bytes that a line may have, and the room that any line fits into.
+const BUDGET: u8 = 15;
+const LONGEST: usize = 85;
+
+// Where `out` may be too short, the line is made in a buffer of the function's own first.
+pub fn write_line(out: &mut [u8], names: &[[u8; 6]; 97], image: &[u8], at: usize) -> LineAnswer
+    requires { ⌜ (now names ≡ map rowOf operations) × (length (now image) ≤ offsets) × (at < length (now image)) ⌝ }
+    ensures { λ r. ⌜ Listed (now (image .entry)) at (now (out .entry)) r (now (out .exit)) ⌝ }
+{
+    let answer = decode_instruction(image, at, BUDGET);
+    if LONGEST <= out.len() {
+        let w = put_step(out, 0, names, image, at, answer);
+        return LineAnswer::Line {
+            len: w.end,
+            taken: w.taken,
+        };
+    }
+    let mut buf = [0u8; LONGEST];
+    let w = put_step(&mut buf, 0, names, image, at, answer);
+    let len = w.end;
+    if out.len() < len {
+        return LineAnswer::Refused(Refusal::NoRoom);
+    }
+    put_bytes(out, 0, &buf[..len]);
+    LineAnswer::Line {
+        len,
+        taken: w.taken,
+    }
+}
