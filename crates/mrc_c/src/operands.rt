@@ -11,7 +11,7 @@ use mrc_instruction::operand::OperandSize;
 use mrc_instruction::register::Segment;
 use mrc_line::target::target;
 ghost use mathlib.Core.Path.{_≡_};
-ghost use Rattle.mrc_c.specs.Record.{operandFields, indirectFields, noOperand};
+ghost use Rattle.mrc_c.specs.Record.{fieldsOf, indirectFields, immediateFields, displacementFields, operandFields};
 
 // Its kind; the segment or register that it names; its addressing mode; its size; the low and the high byte of its number.
 pub struct Fields {
@@ -23,15 +23,86 @@ pub struct Fields {
     pub high: u8,
 }
 
-pub fn no_operand() -> Fields
-    ensures { λ r. ⌜ r ≡ noOperand ⌝ }
+pub fn fields(kind: u8, names: u8, mode: u8, size: u8, number: u16) -> Fields
+    ensures { λ r. ⌜ r ≡ fieldsOf kind names mode size number ⌝ }
 {
     Fields {
-        kind: 0,
-        names: 0,
-        mode: 0,
-        size: 0,
-        low: 0,
-        high: 0,
+        kind,
+        names,
+        mode,
+        size,
+        low: (number % 256) as u8,
+        high: (number / 256 % 256) as u8,
+    }
+}
+
+fn indirect(
+    segment: Segment,
+    mode: AddressingMode,
+    displacement: Displacement,
+    size: OperandSize,
+) -> Fields
+    ensures { λ r. ⌜ r ≡ indirectFields segment mode displacement size ⌝ }
+{
+    let names = segment_code(segment);
+    let by = addressing_code(mode);
+    let wide = size_code(size);
+    let number = target(0, 0, displacement);
+    match displacement {
+        Displacement::None => fields(2, names, by, wide, 0),
+        Displacement::Byte(_) => fields(3, names, by, wide, number % 256),
+        Displacement::Word(_) => fields(4, names, by, wide, number),
+    }
+}
+
+fn immediate(value: Immediate) -> Fields
+    ensures { λ r. ⌜ r ≡ immediateFields value ⌝ }
+{
+    match value {
+        Immediate::Byte(byte) => fields(7, 0, 0, 0, byte as u16),
+        Immediate::Word(word) => fields(8, 0, 0, 0, word),
+    }
+}
+
+fn displacement(value: Displacement) -> Fields
+    ensures { λ r. ⌜ r ≡ displacementFields value ⌝ }
+{
+    let number = target(0, 0, value);
+    match value {
+        Displacement::None => fields(9, 0, 0, 0, 0),
+        Displacement::Byte(_) => fields(10, 0, 0, 0, number % 256),
+        Displacement::Word(_) => fields(11, 0, 0, 0, number),
+    }
+}
+
+pub fn operand_fields(operand: Operand) -> Fields
+    ensures { λ r. ⌜ r ≡ operandFields operand ⌝ }
+{
+    match operand {
+        Operand::Direct(segment, offset, size) => {
+            fields(1, segment_code(segment), 0, size_code(size), offset)
+        }
+        Operand::Indirect(segment, mode, displacement, size) => {
+            indirect(segment, mode, displacement, size)
+        }
+        Operand::Register(register) => {
+            let named = register.0;
+            let size = register.1;
+            fields(5, register_code(named), 0, size_code(size), 0)
+        }
+        Operand::Segment(segment) => fields(6, segment_code(segment), 0, 0, 0),
+        Operand::Immediate(value) => immediate(value),
+        Operand::Displacement(value) => displacement(value),
+        Operand::SegmentAndOffset(address) => {
+            let segment = address.segment;
+            let offset = address.offset;
+            fields(
+                12,
+                (segment % 256) as u8,
+                (segment / 256 % 256) as u8,
+                0,
+                offset,
+            )
+        }
     }
 }

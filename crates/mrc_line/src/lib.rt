@@ -6,6 +6,6 @@ mod operands;
 pub mod page;
 mod registers;
 mod step;
-mod target;
+pub mod target;
 mod text;
 mod write;

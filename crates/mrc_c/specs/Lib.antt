@@ -1,0 +1,4 @@
+pub mod Codes
+pub mod Record
+pub mod Fields
+pub mod Written
