@@ -1,5 +1,5 @@
-// The decode and the ModRM reader for C and Rust.
-use crate::record::record;
+// The decode for C and Rust.
+use crate::record::record_of;
 use crate::write::write_whole;
 use mrc_decoder::decode::decode_instruction;
 ghost use Rattle.mrc_rules.specs.Decode.{decodeAt};
@@ -11,6 +11,6 @@ ghost use Rattle.mrc_c.specs.Written.{Written};
 pub extern "C" fn mrc_decode(s: &[u8], at: usize, budget: u8, out: &mut [u8]) -> usize
     ensures { λ r. ⌜ Written (recordOf (decodeAt (now (s .entry)) at budget)) (now (out .entry)) r (now (out .exit)) ⌝ }
 {
-    let bytes = record(decode_instruction(s, at, budget));
+    let bytes = record_of(decode_instruction(s, at, budget));
     write_whole(out, &bytes)
 }

@@ -2,6 +2,9 @@
 mod codes;
 pub mod decode;
 pub mod fields;
+pub mod line;
+pub mod modrm;
 mod operands;
 pub mod record;
+pub mod sizes;
 mod write;

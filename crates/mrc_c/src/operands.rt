@@ -23,7 +23,7 @@ pub struct Fields {
     pub high: u8,
 }
 
-pub fn fields(kind: u8, names: u8, mode: u8, size: u8, number: u16) -> Fields
+pub fn six(kind: u8, names: u8, mode: u8, size: u8, number: u16) -> Fields
     ensures { λ r. ⌜ r ≡ fieldsOf kind names mode size number ⌝ }
 {
     Fields {
@@ -36,7 +36,7 @@ pub fn fields(kind: u8, names: u8, mode: u8, size: u8, number: u16) -> Fields
     }
 }
 
-fn indirect(
+fn indirect_fields(
     segment: Segment,
     mode: AddressingMode,
     displacement: Displacement,
@@ -49,29 +49,29 @@ fn indirect(
     let wide = size_code(size);
     let number = target(0, 0, displacement);
     match displacement {
-        Displacement::None => fields(2, names, by, wide, 0),
-        Displacement::Byte(_) => fields(3, names, by, wide, number % 256),
-        Displacement::Word(_) => fields(4, names, by, wide, number),
+        Displacement::None => six(2, names, by, wide, 0),
+        Displacement::Byte(_) => six(3, names, by, wide, number % 256),
+        Displacement::Word(_) => six(4, names, by, wide, number),
     }
 }
 
-fn immediate(value: Immediate) -> Fields
+fn immediate_fields(value: Immediate) -> Fields
     ensures { λ r. ⌜ r ≡ immediateFields value ⌝ }
 {
     match value {
-        Immediate::Byte(byte) => fields(7, 0, 0, 0, byte as u16),
-        Immediate::Word(word) => fields(8, 0, 0, 0, word),
+        Immediate::Byte(byte) => six(7, 0, 0, 0, byte as u16),
+        Immediate::Word(word) => six(8, 0, 0, 0, word),
     }
 }
 
-fn displacement(value: Displacement) -> Fields
+fn displacement_fields(value: Displacement) -> Fields
     ensures { λ r. ⌜ r ≡ displacementFields value ⌝ }
 {
     let number = target(0, 0, value);
     match value {
-        Displacement::None => fields(9, 0, 0, 0, 0),
-        Displacement::Byte(_) => fields(10, 0, 0, 0, number % 256),
-        Displacement::Word(_) => fields(11, 0, 0, 0, number),
+        Displacement::None => six(9, 0, 0, 0, 0),
+        Displacement::Byte(_) => six(10, 0, 0, 0, number % 256),
+        Displacement::Word(_) => six(11, 0, 0, 0, number),
     }
 }
 
@@ -80,23 +80,23 @@ pub fn operand_fields(operand: Operand) -> Fields
 {
     match operand {
         Operand::Direct(segment, offset, size) => {
-            fields(1, segment_code(segment), 0, size_code(size), offset)
+            six(1, segment_code(segment), 0, size_code(size), offset)
         }
         Operand::Indirect(segment, mode, displacement, size) => {
-            indirect(segment, mode, displacement, size)
+            indirect_fields(segment, mode, displacement, size)
         }
         Operand::Register(register) => {
             let named = register.0;
             let size = register.1;
-            fields(5, register_code(named), 0, size_code(size), 0)
+            six(5, register_code(named), 0, size_code(size), 0)
         }
-        Operand::Segment(segment) => fields(6, segment_code(segment), 0, 0, 0),
-        Operand::Immediate(value) => immediate(value),
-        Operand::Displacement(value) => displacement(value),
+        Operand::Segment(segment) => six(6, segment_code(segment), 0, 0, 0),
+        Operand::Immediate(value) => immediate_fields(value),
+        Operand::Displacement(value) => displacement_fields(value),
         Operand::SegmentAndOffset(address) => {
             let segment = address.segment;
             let offset = address.offset;
-            fields(
+            six(
                 12,
                 (segment % 256) as u8,
                 (segment / 256 % 256) as u8,

@@ -1,8 +1,8 @@
 // The record of an answer: 20 bytes.
 use crate::codes::repeat_code;
 use crate::operands::Fields;
-use crate::operands::fields;
 use crate::operands::operand_fields;
+use crate::operands::six;
 use mrc_forms::places::place;
 use mrc_instruction::instruction::Instruction;
 use mrc_instruction::instruction::OperandSet;
@@ -55,7 +55,7 @@ fn destination_of(operands: OperandSet) -> Fields
     ensures { λ r. ⌜ r ≡ destinationOf operands ⌝ }
 {
     match operands {
-        OperandSet::None => fields(0, 0, 0, 0, 0),
+        OperandSet::None => six(0, 0, 0, 0, 0),
         OperandSet::Destination(destination) => operand_fields(destination),
         OperandSet::DestinationAndSource(destination, _) => operand_fields(destination),
     }
@@ -65,14 +65,14 @@ fn source_of(operands: OperandSet) -> Fields
     ensures { λ r. ⌜ r ≡ sourceOf operands ⌝ }
 {
     match operands {
-        OperandSet::None => fields(0, 0, 0, 0, 0),
-        OperandSet::Destination(_) => fields(0, 0, 0, 0, 0),
+        OperandSet::None => six(0, 0, 0, 0, 0),
+        OperandSet::Destination(_) => six(0, 0, 0, 0, 0),
         OperandSet::DestinationAndSource(_, source) => operand_fields(source),
     }
 }
 
 // The instruction or the refusal, the bytes taken and the prefixes, in 20 bytes.
-pub fn record(answer: Answer) -> [u8; 20]
+pub fn record_of(answer: Answer) -> [u8; 20]
     ensures { λ r. ⌜ r ≡ recordOf answer ⌝ }
 {
     match answer {
@@ -110,8 +110,8 @@ pub fn record(answer: Answer) -> [u8; 20]
                 operation: 0,
                 repeat: 0,
             },
-            fields(0, 0, 0, 0, 0),
-            fields(0, 0, 0, 0, 0),
+            six(0, 0, 0, 0, 0),
+            six(0, 0, 0, 0, 0),
         ),
     }
 }

@@ -111,7 +111,14 @@ pub fn put_step(
             prefixes: _,
         } => {
             let next = start + taken;
-            let end = put_instruction(buf, at, names, start as u16, &image[start..next], instruction);
+            let end = put_instruction(
+                buf,
+                at,
+                names,
+                start as u16,
+                &image[start..next],
+                instruction,
+            );
             Written { end, taken }
         }
         Answer::Refused {

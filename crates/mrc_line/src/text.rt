@@ -7,6 +7,7 @@ ghost use Rattle.mrc_line.specs.Text.{Put, digitOf, hex2, hex4, pairs, p
 
 // How many of the bytes taken are shown, and how many characters their field has.
 pub const SHOWN: usize = 7;
+
 const FIELD: usize = 21;
 
 // The digit of a number below 16.

@@ -1,0 +1,65 @@
+-- The line call's answer, by its number; the buffer is the line call's.
+-- Assumes nothing.
+use mathlib.Core.Path.{sym, ap, _∙_}
+use Rattle.mrc_c.specs.Line.{lineCode}
+use borrow.Author.Needs.{needs}
+use Rattle.mrc_c.proofs.line.mrc_line.Statement.{statement}
+use Rattle.mrc_c.proofs.line.mrc_line.Tie as tie
+
+line-requires : tie.Need-line-requires
+line-requires c κs = tt
+
+enum-known-len : tie.Need-enum-known-len
+enum-known-len c = search needs
+
+mul-result : tie.Need-mul-result
+mul-result c = search needs
+
+add-result : tie.Need-add-result
+add-result c = search needs
+
+enum-known-refusal : tie.Need-enum-known-refusal
+enum-known-refusal c = search needs
+
+number-requires : tie.Need-number-requires
+number-requires c κs = tt
+
+cast-result : tie.Need-cast-result
+cast-result c = search needs
+
+mul-result-2 : tie.Need-mul-result-2
+mul-result-2 c = search needs
+
+same-length : tie.Need-same-length
+same-length c = search needs
+
+returns : tie.Need-returns
+returns c =
+    record { answer = ap lineCode (sym (c .before .len .given .1) ∙ c .before .before .before .before .before .line .ensures .answer); buffer = c .before .before .before .before .before .line .ensures .bytes }
+
+same-length-2 : tie.Need-same-length-2
+same-length-2 c = search needs
+
+returns-2 : tie.Need-returns-2
+returns-2 c =
+    record {
+      answer = rw (c .number .ensures) (ap lineCode (sym (c .before .before .refusal .given .1) ∙ c .before .before .before .before .before .before .line .ensures .answer));
+      buffer = c .before .before .before .before .before .before .line .ensures .bytes;
+    }
+
+pub mrc-line-spec : {M : Type 1} → statement M
+mrc-line-spec =
+    tie.close
+    (tie.spec
+    line-requires
+    enum-known-len
+    mul-result
+    add-result
+    enum-known-refusal
+    number-requires
+    cast-result
+    mul-result-2
+    same-length
+    returns
+    same-length-2
+    returns-2)

@@ -1,0 +1,65 @@
+-- Each arm knows the kind, at which the list of samples computes; past the other arms the list has ended.
+-- Assumes nothing.
+use mathlib.Core.Path.{sym, ap}
+use lib.ListN.{List·getD-eq-default}
+use Rattle.mrc_instruction.proofs.Past.{past}
+use Rattle.mrc_c.specs.Sizes.{sampleOf}
+use Rattle.mrc_c.proofs.sizes.sample_of.Statement.{statement}
+use Rattle.mrc_c.proofs.sizes.sample_of.Tie as tie
+
+returns : tie.Need-returns
+returns c = sym (ap (λ n. sampleOf n (c .before .args .size)) (c .match .keys1))
+
+returns-2 : tie.Need-returns-2
+returns-2 c = sym (ap (λ n. sampleOf n (c .before .args .size)) (c .match .keys2))
+
+returns-3 : tie.Need-returns-3
+returns-3 c = sym (ap (λ n. sampleOf n (c .before .args .size)) (c .match .keys3))
+
+returns-4 : tie.Need-returns-4
+returns-4 c = sym (ap (λ n. sampleOf n (c .before .args .size)) (c .match .keys4))
+
+returns-5 : tie.Need-returns-5
+returns-5 c = sym (ap (λ n. sampleOf n (c .before .args .size)) (c .match .keys5))
+
+returns-6 : tie.Need-returns-6
+returns-6 c = sym (ap (λ n. sampleOf n (c .before .args .size)) (c .match .keys6))
+
+returns-7 : tie.Need-returns-7
+returns-7 c = sym (ap (λ n. sampleOf n (c .before .args .size)) (c .match .keys7))
+
+returns-8 : tie.Need-returns-8
+returns-8 c = sym (ap (λ n. sampleOf n (c .before .args .size)) (c .match .keys8))
+
+returns-9 : tie.Need-returns-9
+returns-9 c = sym (ap (λ n. sampleOf n (c .before .args .size)) (c .match .keys9))
+
+returns-10 : tie.Need-returns-10
+returns-10 c = sym (ap (λ n. sampleOf n (c .before .args .size)) (c .match .keys10))
+
+returns-11 : tie.Need-returns-11
+returns-11 c = sym (ap (λ n. sampleOf n (c .before .args .size)) (c .match .keys11))
+
+returns-12 : tie.Need-returns-12
+returns-12 c = sym (ap (λ n. sampleOf n (c .before .args .size)) (c .match .keys12))
+
+returns-13 : tie.Need-returns-13
+returns-13 c = rw (List·getD-eq-default _ _ (past 12 _ (c .match .rest)))
+
+pub sample-of-spec : {M : Type 1} → statement M
+sample-of-spec =
+    tie.close
+    (tie.spec
+    returns
+    returns-2
+    returns-3
+    returns-4
+    returns-5
+    returns-6
+    returns-7
+    returns-8
+    returns-9
+    returns-10
+    returns-11
+    returns-12
+    returns-13)

@@ -1,0 +1,17 @@
+// The line call for C and Rust.
+use mrc_line::line::LineAnswer;
+use mrc_line::line::line;
+ghost use Rattle.mrc_c.specs.Line.{LineWritten};
+
+// Writes a line, and answers its length and 65,536 times the bytes taken; or 4,294,967,296 times the refusal's number, nothing being written.
+#[no_mangle]
+pub extern "C" fn mrc_line(image: &[u8], at: usize, out: &mut [u8]) -> u64
+    ensures { λ r. ⌜ LineWritten (now (image .entry)) at (now (out .entry)) r (now (out .exit)) ⌝ }
+{
+    match line(image, at, out) {
+        LineAnswer::Line { len, taken } => {
+            ((len % 65536) as u64) + 65536 * ((taken % 65536) as u64)
+        }
+        LineAnswer::Refused(refusal) => 4294967296 * (refusal.number() as u64),
+    }
+}
