@@ -1,0 +1,123 @@
+//! The families of cases. Each answers its tally.
+
+use crate::both;
+use differential::cases;
+use differential::compare::{over, Tally};
+use differential::fields::kinds_and_sizes;
+#[cfg(feature = "line")]
+use differential::listing::LONGEST_IMAGE;
+use differential::oracle::USUAL_BUDGET;
+use differential::random::Random;
+
+const RANDOM_STRINGS: usize = 65_536;
+const LARGEST_ROOM: usize = 64;
+#[cfg(feature = "line")]
+const LONGEST_LINE: usize = 67;
+
+pub fn short_strings() -> Tally {
+    over(256, |first, tally| {
+        cases::short_strings(first as u8, 3, &mut |string| {
+            both::decode(tally, string, 0, USUAL_BUDGET);
+        });
+    })
+}
+
+pub fn every_modrm_cut() -> Tally {
+    over(256, |opcode, tally| {
+        cases::every_modrm(opcode as u8, &mut |string| {
+            cases::cuts(string, &mut |cut| both::decode(tally, cut, 0, USUAL_BUDGET));
+        });
+    })
+}
+
+pub fn random_strings(seed: u64) -> Tally {
+    over(RANDOM_STRINGS, |stream, tally| {
+        let string = cases::random_string(&mut Random::new(seed, stream as u64));
+        for at in cases::positions(&string) {
+            for budget in 0..=255 {
+                both::decode(tally, &string, at, budget);
+            }
+        }
+    })
+}
+
+pub fn prefix_runs(seed: u64) -> Tally {
+    over(cases::LONGEST_RUN + 1, |length, tally| {
+        for mut run in cases::prefix_runs(length, &mut Random::new(seed, length as u64)) {
+            for behind in cases::BEHIND_PREFIXES {
+                run.truncate(length);
+                run.extend(behind);
+                for budget in 0..=255 {
+                    both::decode(tally, &run, 0, budget);
+                }
+            }
+        }
+    })
+}
+
+pub fn modrm_reader(seed: u64) -> Tally {
+    let mut tally = over(256, |first, tally| {
+        cases::short_strings(first as u8, 3, &mut |string| both::mrrm(tally, string, 0));
+    });
+    tally.add(over(RANDOM_STRINGS, |stream, tally| {
+        let string = cases::random_string(&mut Random::new(seed, stream as u64));
+        for at in cases::positions(&string) {
+            both::mrrm(tally, &string, at);
+        }
+    }));
+    tally
+}
+
+pub fn field_readers() -> Tally {
+    over(256, |field, tally| both::field_readers(tally, field as u8))
+}
+
+pub fn operand_size() -> Tally {
+    let mut tally = Tally::default();
+    for (kind, size) in kinds_and_sizes() {
+        both::operand_size(&mut tally, kind, size);
+    }
+    tally
+}
+
+pub fn rooms() -> Tally {
+    over(LARGEST_ROOM + 1, |room, tally| {
+        for behind in cases::BEHIND_PREFIXES {
+            both::decode_into(tally, behind, room);
+            both::mrrm_into(tally, behind, room);
+        }
+    })
+}
+
+#[cfg(feature = "line")]
+pub fn lines() -> Tally {
+    over(256, |opcode, tally| {
+        cases::every_modrm(opcode as u8, &mut |string| {
+            both::line(tally, string, 0, LONGEST_LINE);
+        });
+    })
+}
+
+#[cfg(feature = "line")]
+pub fn lines_of_an_image(seed: u64) -> Tally {
+    let image = cases::random_image(LONGEST_IMAGE, &mut Random::new(seed, 0));
+    over(image.len() + 3, |at, tally| {
+        both::line(tally, &image, at, LONGEST_LINE);
+    })
+}
+
+#[cfg(feature = "line")]
+pub fn line_rooms(seed: u64) -> Tally {
+    let long = cases::random_image(LONGEST_IMAGE + 1, &mut Random::new(seed, 1));
+    over(LONGEST_LINE + 2, |room, tally| {
+        for stream in 0..256 {
+            let image = cases::random_string(&mut Random::new(seed, stream));
+            for at in cases::positions(&image) {
+                both::line(tally, &image, at, room);
+            }
+        }
+        for at in cases::positions(&long[..16]).chain(LONGEST_IMAGE - 1..=LONGEST_IMAGE + 2) {
+            both::line(tally, &long, at, room);
+        }
+    })
+}

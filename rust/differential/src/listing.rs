@@ -1,0 +1,239 @@
+//! The listing line of document 01, rendered plainly from the given Rust's answer.
+
+use crate::compare::hex;
+use crate::oracle::{self, USUAL_BUDGET};
+use crate::refusal::Refusal;
+use mrc_instruction::{
+    Displacement, Immediate, Instruction, Operand, OperandSet, OperandSize, Repeat,
+};
+
+pub const LONGEST_IMAGE: usize = 65_536;
+const BYTES_SHOWN: usize = 7;
+const BYTE_FIELD: usize = 21;
+
+/// One line with its LF, and the bytes that it accounts for.
+#[derive(Debug)]
+pub struct Line {
+    pub text: String,
+    pub taken: usize,
+}
+
+/// The line at a position, or the refusal of a call whose buffer has `room` bytes.
+pub fn call(image: &[u8], at: usize, room: usize) -> Result<Line, Refusal> {
+    if image.len() > LONGEST_IMAGE {
+        return Err(Refusal::IMAGE_TOO_LONG);
+    }
+    if at > image.len() {
+        return Err(Refusal::OUTSIDE_INPUT);
+    }
+    if at == image.len() {
+        return Err(Refusal::END_OF_INPUT);
+    }
+    let line = line_at(image, at);
+    if line.text.len() > room {
+        return Err(Refusal::NO_ROOM);
+    }
+    Ok(line)
+}
+
+fn line_at(image: &[u8], at: usize) -> Line {
+    let answer = oracle::decode(image, at, USUAL_BUDGET);
+    let (taken, words) = match answer.reading {
+        Ok(instruction) => (
+            answer.taken,
+            instruction_text(&instruction, at + answer.taken),
+        ),
+        Err(_) => (1, format!("DB {:02X}", image[at])),
+    };
+    let shown = hex(&image[at..at + taken.min(BYTES_SHOWN)], " ");
+    Line {
+        text: format!("{at:04X}  {shown:BYTE_FIELD$}  {words}\n"),
+        taken,
+    }
+}
+
+/// `next` is the offset of the byte after the instruction.
+fn instruction_text(instruction: &Instruction, next: usize) -> String {
+    let repeat = match instruction.repeat {
+        None => "",
+        Some(Repeat::Equal) => "REPE ",
+        Some(Repeat::NotEqual) => "REPNE ",
+    };
+    let name = instruction.operation.to_string().to_uppercase();
+    let operands = match &instruction.operands {
+        OperandSet::None => String::new(),
+        OperandSet::Destination(destination) => format!(" {}", destination_text(destination, next)),
+        OperandSet::DestinationAndSource(destination, source) => format!(
+            " {}, {}",
+            destination_text(destination, next),
+            operand_text(source)
+        ),
+    };
+    format!("{repeat}{name}{operands}")
+}
+
+fn destination_text(destination: &Operand, next: usize) -> String {
+    match destination {
+        Operand::Displacement(displacement) => {
+            let target = next as i64 + distance(displacement);
+            format!("{:04X}", target.rem_euclid(65_536))
+        }
+        operand => operand_text(operand),
+    }
+}
+
+fn distance(displacement: &Displacement) -> i64 {
+    match *displacement {
+        Displacement::None => 0,
+        Displacement::Byte(value) => i64::from(value),
+        Displacement::Word(value) => i64::from(value),
+    }
+}
+
+fn operand_text(operand: &Operand) -> String {
+    match operand {
+        Operand::Direct(segment, offset, size) => {
+            format!("{} {}:[{offset:04X}]", size_text(*size), upper(segment))
+        }
+        Operand::Indirect(segment, mode, displacement, size) => format!(
+            "{} {}:[{}{}]",
+            size_text(*size),
+            upper(segment),
+            upper(mode),
+            displacement_text(displacement)
+        ),
+        Operand::Register(register) => upper(register),
+        Operand::Segment(segment) => upper(segment),
+        Operand::Immediate(Immediate::Byte(value)) => format!("{value:02X}"),
+        Operand::Immediate(Immediate::Word(value)) => format!("{value:04X}"),
+        Operand::Displacement(displacement) => displacement_text(displacement),
+        Operand::SegmentAndOffset(address) => upper(address),
+    }
+}
+
+fn size_text(size: OperandSize) -> &'static str {
+    match size {
+        OperandSize::Byte => "BYTE",
+        OperandSize::Word => "WORD",
+    }
+}
+
+/// Sign and magnitude, in the digits of its width.
+fn displacement_text(displacement: &Displacement) -> String {
+    let sign = if distance(displacement) < 0 { '-' } else { '+' };
+    match *displacement {
+        Displacement::None => String::new(),
+        Displacement::Byte(value) => format!("{sign}{:02X}", value.unsigned_abs()),
+        Displacement::Word(value) => format!("{sign}{:04X}", value.unsigned_abs()),
+    }
+}
+
+fn upper(name: &impl ToString) -> String {
+    name.to_string().to_uppercase()
+}
+
+#[cfg(test)]
+mod tests {
+    use super::*;
+    use mrc_decoder::{decode_instruction, DecodedInstruction};
+    use mrc_instruction::Address;
+
+    const ROOM: usize = 128;
+
+    fn list(image: &[u8]) -> String {
+        let mut text = String::new();
+        let mut at = 0;
+        while let Ok(line) = call(image, at, ROOM) {
+            text += &line.text;
+            at += line.taken;
+        }
+        assert_eq!(at, image.len());
+        text
+    }
+
+    fn refusal(image: &[u8], at: usize, room: usize) -> u8 {
+        call(image, at, room)
+            .err()
+            .map_or(0, |refusal| refusal.number)
+    }
+
+    #[test]
+    fn the_example_of_document_01() {
+        let image = [
+            0x26, 0x8B, 0x47, 0xFE, 0xF3, 0xA4, 0x75, 0xF8, 0x83, 0xC0, 0xFF, 0x60, 0x8B,
+        ];
+        let lines = [
+            "0000  26 8B 47 FE            MOV AX, WORD ES:[BX-02]\n",
+            "0004  F3 A4                  REPE MOVSB\n",
+            "0006  75 F8                  JNE 0000\n",
+            "0008  83 C0 FF               ADD AX, 00FF\n",
+            "000B  60                     DB 60\n",
+            "000C  8B                     DB 8B\n",
+        ];
+        assert_eq!(list(&image), lines.concat());
+    }
+
+    #[test]
+    fn the_operands_of_document_01() {
+        let ends = |bytes: &[u8], words: &str| {
+            let text = list(bytes);
+            assert!(text.ends_with(&format!("  {words}\n")), "{text}");
+        };
+        ends(&[0x26, 0xA1, 0x34, 0x12], "MOV AX, WORD ES:[1234]");
+        ends(&[0x88, 0x40, 0x80], "MOV BYTE DS:[BX+SI-80], AL");
+        ends(&[0x88, 0x80, 0x00, 0x80], "MOV BYTE DS:[BX+SI-8000], AL");
+        ends(&[0xEA, 0x78, 0x56, 0x34, 0x12], "JMP 1234:5678");
+        ends(&[0x8E, 0xD8], "MOV DS, AX");
+        ends(&[0xF2, 0xA6], "REPNE CMPSB");
+    }
+
+    #[test]
+    fn at_most_seven_bytes_are_shown() {
+        let text = list(&[0x26, 0x26, 0x81, 0x80, 0x34, 0x12, 0x78, 0x56]);
+        assert_eq!(
+            text,
+            "0000  26 26 81 80 34 12 78   ADD WORD ES:[BX+SI+1234], 5678\n"
+        );
+    }
+
+    #[test]
+    fn refusals_come_in_order() {
+        let long = vec![0x90; LONGEST_IMAGE + 1];
+        assert_eq!(refusal(&long, LONGEST_IMAGE + 2, 0), 13);
+        assert_eq!(refusal(&[0x90], 2, 0), 11);
+        assert_eq!(refusal(&[0x90], 1, 0), 1);
+        assert_eq!(refusal(&[0x90], 0, 32), 12);
+        assert_eq!(refusal(&[0x90], 0, 33), 0);
+    }
+
+    fn target_of_the_rust(bytes: &[u8], at: u16) -> String {
+        let instruction = decode_instruction(&mut bytes.iter().copied()).expect("a jump");
+        let address = Address::new(0, at);
+        let size = bytes.len() as u8;
+        DecodedInstruction::new(address, bytes, instruction, size).to_string()
+    }
+
+    fn assert_target(bytes: &[u8], at: u16) {
+        let mut image = vec![0; usize::from(at)];
+        image.extend(bytes);
+        let ours = call(&image, usize::from(at), ROOM).expect("a line").text;
+        let ours = &ours[ours.len() - 5..ours.len() - 1];
+        assert!(
+            target_of_the_rust(bytes, at).ends_with(&format!(" 0x{ours}")),
+            "{bytes:?} at {at}"
+        );
+    }
+
+    #[test]
+    fn targets_are_those_of_the_rust() {
+        for at in [0, 1, 0x7FFD, 0x8000, 0xFFF0] {
+            for byte in 0..=255 {
+                assert_target(&[0xEB, byte], at);
+            }
+            for word in (0..=u16::MAX).step_by(257).chain([0x7FFF, 0x8000, 0x8001]) {
+                let [low, high] = word.to_le_bytes();
+                assert_target(&[0xE9, low, high], at);
+            }
+        }
+    }
+}

@@ -1,0 +1,89 @@
+//! Compares the proved library with the given Rust, family by family. The argument is the seed of the random cases.
+
+mod both;
+mod families;
+mod ours;
+
+use differential::compare::Tally;
+use std::env;
+use std::process::ExitCode;
+use std::time::Instant;
+
+const FIRST_SEED: u64 = 1;
+
+fn main() -> ExitCode {
+    let Some(seed) = seed() else {
+        eprintln!("differential: the seed is a number");
+        return ExitCode::from(2);
+    };
+    let start = Instant::now();
+    println!("seed {seed}");
+    let total = run(seed);
+    println!(
+        "{} compared, {} differ, in {} s",
+        total.compared,
+        total.differ,
+        start.elapsed().as_secs()
+    );
+    ExitCode::from(u8::from(total.differ > 0))
+}
+
+fn seed() -> Option<u64> {
+    match env::args().nth(1) {
+        None => Some(FIRST_SEED),
+        Some(word) => word.parse().ok(),
+    }
+}
+
+fn run(seed: u64) -> Tally {
+    let mut total = Tally::default();
+    let mut family = |what: &str, tally: Tally| {
+        println!(
+            "{what}: {} compared, {} differ",
+            tally.compared, tally.differ
+        );
+        if let Some(difference) = &tally.smallest {
+            println!("{difference}");
+        }
+        total.add(tally);
+    };
+    family("field readers on 0 to 255", families::field_readers());
+    family(
+        "operand_size of each kind and size",
+        families::operand_size(),
+    );
+    family("buffers of 0 to 64 bytes", families::rooms());
+    family(
+        "every string of up to three bytes",
+        families::short_strings(),
+    );
+    family(
+        "every opcode with every ModRM byte, tails, prefixes and cuts",
+        families::every_modrm_cut(),
+    );
+    family(
+        "random strings at every position with every budget",
+        families::random_strings(seed),
+    );
+    family(
+        "prefix runs of 0 to 300 with every budget",
+        families::prefix_runs(seed),
+    );
+    family("the ModRM reader", families::modrm_reader(seed));
+    #[cfg(feature = "line")]
+    lines(seed, &mut family);
+    total
+}
+
+#[cfg(feature = "line")]
+fn lines(seed: u64, family: &mut impl FnMut(&str, Tally)) {
+    family(
+        "a line of every opcode with every ModRM byte",
+        families::lines(),
+    );
+    family(
+        "a line at every position of an image",
+        families::lines_of_an_image(seed),
+    );
+    family("line buffers of 0 to 68 bytes", families::line_rooms(seed));
+}

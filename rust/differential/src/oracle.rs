@@ -1,0 +1,53 @@
+//! The given Rust's decoder with what document 01 adds to it: a position, a prefix budget and the two counts.
+
+use crate::counted::Counted;
+use crate::refusal::Refusal;
+use mrc_decoder::decode_instruction;
+use mrc_instruction::Instruction;
+
+/// The budget of the listing, and of every reading that names none.
+pub const USUAL_BUDGET: u8 = 15;
+
+pub struct Answer {
+    pub reading: Result<Instruction, Refusal>,
+    pub taken: usize,
+    pub prefixes: usize,
+}
+
+pub fn decode(bytes: &[u8], at: usize, budget: u8) -> Answer {
+    match bytes.get(at..) {
+        None => refused(Refusal::OUTSIDE_INPUT, 0),
+        Some(rest) => decode_within(rest, usize::from(budget)),
+    }
+}
+
+fn decode_within(bytes: &[u8], budget: usize) -> Answer {
+    let prefixes = prefix_run(bytes);
+    if prefixes > budget {
+        return refused(Refusal::too_many_prefixes(bytes[budget]), budget + 1);
+    }
+    let mut counted = Counted::new(bytes);
+    let reading = decode_instruction(&mut counted).map_err(Refusal::from);
+    Answer {
+        reading,
+        taken: counted.taken,
+        prefixes,
+    }
+}
+
+/// A refusal whose bytes taken are all prefixes.
+fn refused(refusal: Refusal, prefixes: usize) -> Answer {
+    Answer {
+        reading: Err(refusal),
+        taken: prefixes,
+        prefixes,
+    }
+}
+
+fn prefix_run(bytes: &[u8]) -> usize {
+    bytes.iter().take_while(|byte| is_prefix(**byte)).count()
+}
+
+fn is_prefix(byte: u8) -> bool {
+    matches!(byte, 0x26 | 0x2E | 0x36 | 0x3E | 0xF2 | 0xF3)
+}
