@@ -1,9 +1,9 @@
 //! One question put to both sides, and their answers noted.
 
-use crate::ours;
 use differential::compare::{Limit, Question, Tally};
 use differential::oracle::{self, USUAL_BUDGET};
 use differential::{fields, modrm, record};
+use mrc::boundary as ours;
 
 /// What a buffer holds before a call.
 const UNTOUCHED: u8 = 0xA5;
@@ -86,7 +86,6 @@ pub fn operand_size(tally: &mut Tally, kind: u8, size: u8) {
 }
 
 /// The line call's answer and the whole buffer.
-#[cfg(feature = "line")]
 pub fn line(tally: &mut Tally, image: &[u8], at: usize, room: usize) {
     let mut rust_out = vec![UNTOUCHED; room];
     let rust = expected_line(image, at, &mut rust_out);
@@ -98,7 +97,6 @@ pub fn line(tally: &mut Tally, image: &[u8], at: usize, room: usize) {
     });
 }
 
-#[cfg(feature = "line")]
 fn expected_line(image: &[u8], at: usize, out: &mut [u8]) -> u64 {
     match differential::listing::call(image, at, out.len()) {
         Ok(line) => {

@@ -4,14 +4,12 @@ use crate::both;
 use differential::cases;
 use differential::compare::{over, Tally};
 use differential::fields::kinds_and_sizes;
-#[cfg(feature = "line")]
 use differential::listing::LONGEST_IMAGE;
 use differential::oracle::USUAL_BUDGET;
 use differential::random::Random;
 
 const RANDOM_STRINGS: usize = 65_536;
 const LARGEST_ROOM: usize = 64;
-#[cfg(feature = "line")]
 const LONGEST_LINE: usize = 67;
 
 pub fn short_strings() -> Tally {
@@ -89,7 +87,6 @@ pub fn rooms() -> Tally {
     })
 }
 
-#[cfg(feature = "line")]
 pub fn lines() -> Tally {
     over(256, |opcode, tally| {
         cases::every_modrm(opcode as u8, &mut |string| {
@@ -98,7 +95,6 @@ pub fn lines() -> Tally {
     })
 }
 
-#[cfg(feature = "line")]
 pub fn lines_of_an_image(seed: u64) -> Tally {
     let image = cases::random_image(LONGEST_IMAGE, &mut Random::new(seed, 0));
     over(image.len() + 3, |at, tally| {
@@ -106,7 +102,6 @@ pub fn lines_of_an_image(seed: u64) -> Tally {
     })
 }
 
-#[cfg(feature = "line")]
 pub fn line_rooms(seed: u64) -> Tally {
     let long = cases::random_image(LONGEST_IMAGE + 1, &mut Random::new(seed, 1));
     over(LONGEST_LINE + 2, |room, tally| {

@@ -2,7 +2,6 @@
 
 mod both;
 mod families;
-mod ours;
 
 use differential::compare::Tally;
 use std::env;
@@ -70,12 +69,10 @@ fn run(seed: u64) -> Tally {
         families::prefix_runs(seed),
     );
     family("the ModRM reader", families::modrm_reader(seed));
-    #[cfg(feature = "line")]
     lines(seed, &mut family);
     total
 }
 
-#[cfg(feature = "line")]
 fn lines(seed: u64, family: &mut impl FnMut(&str, Tally)) {
     family(
         "a line of every opcode with every ModRM byte",

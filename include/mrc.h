@@ -1,0 +1,161 @@
+/* The proved 8086 decoder and lister, from C on x86-64. Link libmrc_c.a, which `rt staticlib mrc_c` writes.
+ *
+ * Every call answers for every input: no position, budget, field or length is forbidden. The caller owns each buffer, lends
+ * it for the call alone, and the buffer that is written to overlaps no other. A pointer whose length is 0 is not followed.
+ * Nothing is allocated and nothing is kept between calls, so calls may run at the same time. */
+#ifndef MRC_H
+#define MRC_H
+
+#include <stddef.h>
+#include <stdint.h>
+
+#ifdef __cplusplus
+extern "C" {
+#endif
+
+enum {
+    MRC_DECODE_RECORD = 20,   /* bytes that mrc_decode writes */
+    MRC_MRRM_RECORD = 10,     /* bytes that mrc_mrrm writes */
+    MRC_LONGEST_LINE = 67,    /* the most bytes that mrc_line writes, the LF included */
+    MRC_LONGEST_IMAGE = 65536 /* the most bytes that mrc_line lists */
+};
+
+/* Why a call is refused. The byte that a refusal carries is 0 where none is named. */
+enum mrc_refusal {
+    MRC_NOT_REFUSED = 0,
+    MRC_END_OF_INPUT = 1,                     /* no opcode byte */
+    MRC_COULD_NOT_READ_EXTRA_BYTES = 2,       /* the input ends after the opcode */
+    MRC_INVALID_DATA_SIZE_ENCODING = 3,       /* reserved: never given */
+    MRC_INVALID_INDIRECT_MEMORY_ENCODING = 4, /* the field: an addressing field of 8 or more */
+    MRC_INVALID_MOD_REG_RM_ENCODING = 5,      /* the ModRM byte: 8F with a reg that is not 0 */
+    MRC_INVALID_OP_CODE = 6,                  /* the opcode; 01 for F6 and F7 with reg 1 */
+    MRC_INVALID_REGISTER_ENCODING = 7,        /* the field: a register field of 8 or more */
+    MRC_INVALID_SEGMENT_ENCODING = 8,         /* the field: a segment field of 4 or more */
+    MRC_INVALID_PREFIX = 9,                   /* the first segment override: what follows is refused or has no operands */
+    MRC_TOO_MANY_PREFIXES = 10,               /* the prefix that is over the budget */
+    MRC_OUTSIDE_INPUT = 11,                   /* the position is beyond the length */
+    MRC_NO_ROOM = 12,                         /* the line is longer than its buffer */
+    MRC_IMAGE_TOO_LONG = 13                   /* the image is longer than MRC_LONGEST_IMAGE */
+};
+
+/* Decodes the instruction at a position, with at most `budget` prefixes.
+ *
+ * Writes MRC_DECODE_RECORD bytes to the front of `out`, none behind them, and answers their number; where `room` is less,
+ * writes nothing and answers 0. The record:
+ *
+ *     0         enum mrc_refusal
+ *     1         the byte that the refusal carries
+ *     2, 3      bytes taken from the position on, low byte first
+ *     4, 5      prefixes among them, low byte first
+ *     6         enum mrc_operation
+ *     7         0 no repeat, 1 repeat while equal (F3), 2 repeat while not equal (F2)
+ *     8 to 13   the destination
+ *     14 to 19  the source
+ *
+ * Bytes 6 to 19 of a refusal are 0. An operand's six bytes:
+ *
+ *     0         enum mrc_kind
+ *     1         enum mrc_segment_code, or enum mrc_register_code; of a far address its segment, low byte
+ *     2         enum mrc_addressing_code; of a far address its segment, high byte
+ *     3         enum mrc_size, of memory and registers
+ *     4, 5      offset, displacement or immediate, low byte first; a byte's second is 0
+ *
+ * What a kind has no use for is 0. A byte displacement of 128 or more stands for itself less 256, a word displacement of
+ * 32,768 or more for itself less 65,536. */
+size_t mrc_decode(const uint8_t *bytes, size_t length, size_t position, uint8_t budget, uint8_t *out, size_t room);
+
+/* Places in the record of mrc_decode. */
+enum {
+    MRC_AT_REFUSAL = 0,
+    MRC_AT_BYTE = 1,
+    MRC_AT_TAKEN = 2,
+    MRC_AT_PREFIXES = 4,
+    MRC_AT_OPERATION = 6,
+    MRC_AT_REPEAT = 7,
+    MRC_AT_DESTINATION = 8,
+    MRC_AT_SOURCE = 14
+};
+
+/* Reads the ModRM byte at a position, and the displacement that follows it.
+ *
+ * Writes MRC_MRRM_RECORD bytes to the front of `out`, none behind them, and answers their number; where `room` is less,
+ * writes nothing and answers 0. The record:
+ *
+ *     0         enum mrc_refusal: MRC_OUTSIDE_INPUT or MRC_COULD_NOT_READ_EXTRA_BYTES
+ *     1         the ModRM byte
+ *     2, 3      bytes taken from the position on, low byte first
+ *     4         the register field, enum mrc_register_code
+ *     5         enum mrc_kind: from MRC_DIRECT to MRC_REGISTER
+ *     6         enum mrc_addressing_code, or enum mrc_register_code; 0 for MRC_DIRECT
+ *     7         0
+ *     8, 9      offset or displacement, low byte first; a displacement of 0 keeps its kind here
+ *
+ * Byte 1 and bytes 4 to 9 of a refusal are 0. */
+size_t mrc_mrrm(const uint8_t *bytes, size_t length, size_t position, uint8_t *out, size_t room);
+
+/* What a field names: its code, or 65,536 times the refusal's number plus the field. */
+uint32_t mrc_register(uint8_t field);
+uint32_t mrc_segment(uint8_t field);
+uint32_t mrc_addressing(uint8_t field);
+
+/* The size of an operand of a kind: enum mrc_size. `size` is the operand's own, of memory and registers. */
+uint8_t mrc_operand_size(uint8_t kind, uint8_t size);
+
+/* Writes the listing line at a position of an image, with its LF, to the front of `out`, and no byte behind it; there is no
+ * NUL. A buffer of MRC_LONGEST_LINE bytes has room for every line.
+ *
+ * Answers the line's length plus 65,536 times the bytes of the image that it accounts for; the next line starts behind
+ * them. A refused call answers 2^32 times the refusal's number and writes nothing: MRC_IMAGE_TOO_LONG, MRC_OUTSIDE_INPUT,
+ * MRC_END_OF_INPUT (the position is the length: no line is left), MRC_NO_ROOM, the first that applies. */
+uint64_t mrc_line(const uint8_t *image, size_t length, size_t position, uint8_t *out, size_t room);
+
+static inline enum mrc_refusal mrc_line_refusal(uint64_t answer) { return (enum mrc_refusal)(answer >> 32); }
+static inline size_t mrc_line_length(uint64_t answer) { return (size_t)(answer & 0xFFFF); }
+static inline size_t mrc_line_taken(uint64_t answer) { return (size_t)(answer >> 16 & 0xFFFF); }
+
+enum mrc_kind {
+    MRC_ABSENT,
+    MRC_DIRECT,
+    MRC_INDIRECT,
+    MRC_INDIRECT_BYTE,
+    MRC_INDIRECT_WORD,
+    MRC_REGISTER,
+    MRC_SEGMENT,
+    MRC_IMMEDIATE_BYTE,
+    MRC_IMMEDIATE_WORD,
+    MRC_DISPLACEMENT_NONE,
+    MRC_DISPLACEMENT_BYTE,
+    MRC_DISPLACEMENT_WORD,
+    MRC_SEGMENT_AND_OFFSET
+};
+
+enum mrc_size { MRC_BYTE, MRC_WORD, MRC_NO_SIZE };
+
+enum mrc_segment_code { MRC_ES, MRC_CS, MRC_SS, MRC_DS };
+
+/* A register as a byte and as a word. */
+enum mrc_register_code { MRC_AL_AX, MRC_CL_CX, MRC_DL_DX, MRC_BL_BX, MRC_AH_SP, MRC_CH_BP, MRC_DH_SI, MRC_BH_DI };
+
+enum mrc_addressing_code { MRC_BX_SI, MRC_BX_DI, MRC_BP_SI, MRC_BP_DI, MRC_SI, MRC_DI, MRC_BP, MRC_BX };
+
+enum mrc_operation {
+    MRC_OP_MOV, MRC_OP_PUSH, MRC_OP_POP, MRC_OP_XCHG, MRC_OP_IN, MRC_OP_OUT, MRC_OP_XLATB, MRC_OP_LEA,
+    MRC_OP_LDS, MRC_OP_LES, MRC_OP_LAHF, MRC_OP_SAHF, MRC_OP_PUSHF, MRC_OP_POPF, MRC_OP_ADD, MRC_OP_ADC,
+    MRC_OP_INC, MRC_OP_AAA, MRC_OP_DAA, MRC_OP_SUB, MRC_OP_SBB, MRC_OP_DEC, MRC_OP_NEG, MRC_OP_CMP,
+    MRC_OP_AAS, MRC_OP_DAS, MRC_OP_MUL, MRC_OP_IMUL, MRC_OP_AAM, MRC_OP_DIV, MRC_OP_IDIV, MRC_OP_AAD,
+    MRC_OP_CBW, MRC_OP_CWD, MRC_OP_NOT, MRC_OP_SHL, MRC_OP_SHR, MRC_OP_SAR, MRC_OP_ROL, MRC_OP_ROR,
+    MRC_OP_RCL, MRC_OP_RCR, MRC_OP_AND, MRC_OP_TEST, MRC_OP_OR, MRC_OP_XOR, MRC_OP_MOVSB, MRC_OP_MOVSW,
+    MRC_OP_CMPSB, MRC_OP_CMPSW, MRC_OP_SCASB, MRC_OP_SCASW, MRC_OP_LODSB, MRC_OP_LODSW, MRC_OP_STOSB, MRC_OP_STOSW,
+    MRC_OP_CALL, MRC_OP_JMP, MRC_OP_RET, MRC_OP_JE, MRC_OP_JL, MRC_OP_JLE, MRC_OP_JB, MRC_OP_JBE,
+    MRC_OP_JP, MRC_OP_JO, MRC_OP_JS, MRC_OP_JNE, MRC_OP_JNL, MRC_OP_JNLE, MRC_OP_JNB, MRC_OP_JNBE,
+    MRC_OP_JNP, MRC_OP_JNO, MRC_OP_JNS, MRC_OP_LOOP, MRC_OP_LOOPZ, MRC_OP_LOOPNZ, MRC_OP_JCXZ, MRC_OP_INT,
+    MRC_OP_INT1, MRC_OP_INT3, MRC_OP_INTO, MRC_OP_IRET, MRC_OP_CLC, MRC_OP_CMC, MRC_OP_STC, MRC_OP_CLD,
+    MRC_OP_STD, MRC_OP_CLI, MRC_OP_STI, MRC_OP_HLT, MRC_OP_WAIT, MRC_OP_ESC, MRC_OP_LOCK, MRC_OP_NOP,
+    MRC_OP_SALC
+};
+
+#ifdef __cplusplus
+}
+#endif
+
+#endif

@@ -1,0 +1,21 @@
+/// An enum whose variants, in their order, have the codes 0, 1, 2 and so on at the boundary.
+macro_rules! coded {
+    ($(#[$about:meta])* $access:vis enum $name:ident { $($(#[$of:meta])* $variant:ident),* $(,)? }) => {
+        $(#[$about])*
+        #[derive(Clone, Copy, Debug, PartialEq, Eq)]
+        $access enum $name { $($(#[$of])* $variant),* }
+
+        impl $name {
+            pub(crate) const ALL: &'static [Self] = &[$(Self::$variant),*];
+
+            pub(crate) fn from_code(code: u8) -> Self {
+                match Self::ALL.get(usize::from(code)) {
+                    Some(variant) => *variant,
+                    None => panic!("no {} has the code {code}", stringify!($name)),
+                }
+            }
+        }
+    };
+}
+
+pub(crate) use coded;

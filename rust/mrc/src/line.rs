@@ -1,0 +1,84 @@
+use crate::{boundary, DecodeError, Result};
+use std::fmt::{self, Display, Formatter};
+
+/// The most bytes that an image has: one for each offset.
+pub const LONGEST_IMAGE: usize = 65_536;
+/// The most bytes that a line has, its LF included.
+pub const LONGEST_LINE: usize = 67;
+
+/// What a line call wrote, and the bytes of the image that its line accounts for.
+#[derive(Clone, Copy, Debug, PartialEq, Eq)]
+pub struct Written {
+    pub length: usize,
+    pub taken: usize,
+}
+
+/// Writes the listing line at a position, with its LF, to the front of `out`. A refused call changes no byte of it.
+pub fn line(image: &[u8], position: usize, out: &mut [u8]) -> Result<Written> {
+    let answer = boundary::line(image, position, out);
+    match (answer >> 32) as u8 {
+        0 => Ok(Written {
+            length: usize::from(answer as u16),
+            taken: usize::from((answer >> 16) as u16),
+        }),
+        number => Err(DecodeError::from_number(number, 0)),
+    }
+}
+
+/// A listing line, as the line call writes it, with its LF.
+#[derive(Clone, Debug, PartialEq, Eq)]
+pub struct Line {
+    /// The offset in the image at which the line starts.
+    pub start: usize,
+    /// The bytes of the image that the line accounts for.
+    pub taken: usize,
+    pub text: String,
+}
+
+impl Display for Line {
+    fn fmt(&self, f: &mut Formatter<'_>) -> fmt::Result {
+        f.write_str(&self.text)
+    }
+}
+
+/// The lines of an image, from its first byte to its last. An image of more than [`LONGEST_IMAGE`] bytes is refused.
+///
+/// ```
+/// let listing: Vec<String> = mrc::lines(&[0xF3, 0xA4, 0x60])?.map(|line| line.text).collect();
+/// assert_eq!(listing[0], "0000  F3 A4                  REPE MOVSB\n");
+/// assert_eq!(listing[1], "0002  60                     DB 60\n");
+/// # mrc::Result::Ok(())
+/// ```
+pub fn lines(image: &[u8]) -> Result<Lines<'_>> {
+    match line(image, image.len(), &mut []) {
+        Err(DecodeError::ImageTooLong) => Err(DecodeError::ImageTooLong),
+        _ => Ok(Lines { image, start: 0 }),
+    }
+}
+
+/// The iterator of [`lines`].
+#[derive(Clone, Debug)]
+pub struct Lines<'a> {
+    image: &'a [u8],
+    start: usize,
+}
+
+impl Iterator for Lines<'_> {
+    type Item = Line;
+
+    fn next(&mut self) -> Option<Line> {
+        let mut out = [0; LONGEST_LINE];
+        let written = match line(self.image, self.start, &mut out) {
+            Ok(written) => written,
+            Err(DecodeError::EndOfInput) => return None,
+            Err(refusal) => panic!("a line within the image is refused: {refusal}"),
+        };
+        let start = self.start;
+        self.start += written.taken;
+        Some(Line {
+            start,
+            taken: written.taken,
+            text: String::from_utf8_lossy(&out[..written.length]).into_owned(),
+        })
+    }
+}

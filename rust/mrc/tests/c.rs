@@ -1,0 +1,75 @@
+//! The header and the example from C: built with `cc`, and run.
+
+use std::fs;
+use std::path::{Path, PathBuf};
+use std::process::{Command, Output};
+
+const LONGEST_IMAGE: usize = 65_536;
+
+fn root() -> PathBuf {
+    Path::new(env!("CARGO_MANIFEST_DIR")).join("../..")
+}
+
+fn scratch(name: &str) -> PathBuf {
+    Path::new(env!("CARGO_TARGET_TMPDIR")).join(name)
+}
+
+/// The program that `cc` makes of a source with the header and the archive.
+fn built(source: PathBuf, name: &str) -> PathBuf {
+    let program = scratch(name);
+    let output = Command::new("cc")
+        .args(["-std=c99", "-Wall", "-Wextra", "-pedantic", "-Werror", "-I"])
+        .arg(root().join("include"))
+        .arg(source)
+        .arg(env!("MRC_C_ARCHIVE"))
+        .arg("-o")
+        .arg(&program)
+        .output()
+        .expect("a C compiler named cc on the PATH");
+    let said = String::from_utf8_lossy(&output.stderr);
+    assert!(output.status.success(), "cc says:\n{said}");
+    program
+}
+
+fn run(program: &Path, image: &Path) -> Output {
+    let mut command = Command::new(program);
+    command.arg(image).output().expect("the program runs")
+}
+
+#[test]
+fn each_function_answers_c() {
+    let here = Path::new(env!("CARGO_MANIFEST_DIR"));
+    let program = built(here.join("tests/c/boundary.c"), "boundary");
+    let output = Command::new(program).output().expect("the program runs");
+    let said = String::from_utf8_lossy(&output.stdout);
+    assert!(output.status.success(), "{said}");
+}
+
+#[test]
+fn the_example_lists_a_file() {
+    let program = built(root().join("examples/list.c"), "list");
+    let bytes: Vec<u8> = (0..LONGEST_IMAGE).map(|place| (place / 7) as u8).collect();
+    for length in [0, 13, LONGEST_IMAGE] {
+        let image = scratch(&format!("{length}.bin"));
+        fs::write(&image, &bytes[..length]).expect("an image");
+        let output = run(&program, &image);
+        let lines = mrc::lines(&bytes[..length]).expect("lines");
+        let expected: String = lines.map(|line| line.text).collect();
+        assert!(output.status.success());
+        assert!(output.stdout == expected.as_bytes(), "{length} bytes");
+    }
+}
+
+#[test]
+fn the_example_says_in_one_line_what_it_cannot_list() {
+    let program = built(root().join("examples/list.c"), "list-refused");
+    let too_long = scratch("too-long.bin");
+    fs::write(&too_long, vec![0; LONGEST_IMAGE + 1]).expect("an image");
+    for image in [too_long, scratch("missing.bin")] {
+        let output = run(&program, &image);
+        assert_eq!(output.status.code(), Some(1));
+        assert!(output.stdout.is_empty());
+        let said = String::from_utf8_lossy(&output.stderr);
+        assert_eq!(said.lines().count(), 1, "{said}");
+    }
+}

@@ -1,0 +1,93 @@
+//! The line call, and the lines of an image.
+
+use mrc::{line, lines, DecodeError, Written, LONGEST_IMAGE, LONGEST_LINE};
+
+const EXAMPLE: [u8; 13] = [
+    0x26, 0x8B, 0x47, 0xFE, 0xF3, 0xA4, 0x75, 0xF8, 0x83, 0xC0, 0xFF, 0x60, 0x8B,
+];
+
+/// Every byte and every pair of neighbours, in a mixed order.
+fn full_image() -> Vec<u8> {
+    (0..LONGEST_IMAGE)
+        .map(|place| (place.wrapping_mul(40_503) >> 5) as u8)
+        .collect()
+}
+
+#[test]
+fn the_example_of_document_01() {
+    let listing: String = lines(&EXAMPLE)
+        .expect("a short image")
+        .map(|line| line.text)
+        .collect();
+    assert_eq!(
+        listing,
+        "0000  26 8B 47 FE            MOV AX, WORD ES:[BX-02]\n\
+         0004  F3 A4                  REPE MOVSB\n\
+         0006  75 F8                  JNE 0000\n\
+         0008  83 C0 FF               ADD AX, 00FF\n\
+         000B  60                     DB 60\n\
+         000C  8B                     DB 8B\n"
+    );
+}
+
+#[test]
+fn a_line_call_leaves_the_bytes_behind_its_line() {
+    let mut out = [0xA5; LONGEST_LINE];
+    let written = line(&EXAMPLE, 4, &mut out);
+    let expected = b"0004  F3 A4                  REPE MOVSB\n";
+    let length = expected.len();
+    assert_eq!(written, Ok(Written { length, taken: 2 }));
+    assert_eq!(&out[..length], expected);
+    assert!(out[length..].iter().all(|byte| *byte == 0xA5));
+}
+
+#[test]
+fn refusals_of_a_line_call_come_in_order_and_write_nothing() {
+    let too_long = vec![0x90; LONGEST_IMAGE + 1];
+    let refused = |image: &[u8], position, room, refusal| {
+        let mut out = vec![0xA5; room];
+        assert_eq!(line(image, position, &mut out), Err(refusal));
+        assert!(out.iter().all(|byte| *byte == 0xA5));
+    };
+    refused(&too_long, usize::MAX, 0, DecodeError::ImageTooLong);
+    refused(&too_long, 0, LONGEST_LINE, DecodeError::ImageTooLong);
+    refused(&EXAMPLE, 14, 0, DecodeError::OutsideInput);
+    refused(&EXAMPLE, 13, 0, DecodeError::EndOfInput);
+    refused(&EXAMPLE, 4, 39, DecodeError::NoRoom);
+}
+
+#[test]
+fn the_longest_line_has_just_room() {
+    let image = [0xF2, 0x26, 0xF7, 0x80, 0x00, 0x80, 0x34, 0x12];
+    let text = lines(&image)
+        .expect("a short image")
+        .next()
+        .map(|line| line.text);
+    let expected = "0000  F2 26 F7 80 00 80 34   REPNE TEST WORD ES:[BX+SI-8000], 1234\n";
+    assert_eq!(text.as_deref(), Some(expected));
+    assert_eq!(expected.len(), LONGEST_LINE);
+}
+
+#[test]
+fn the_lines_of_a_full_image_account_for_each_byte_once() {
+    let image = full_image();
+    let mut next = 0;
+    for line in lines(&image).expect("an image of full length") {
+        assert_eq!(line.start, next);
+        assert!(line.text.starts_with(&format!("{next:04X}  ")));
+        assert!(line.text.ends_with('\n'));
+        next += line.taken;
+    }
+    assert_eq!(next, image.len());
+}
+
+#[test]
+fn an_empty_image_has_no_line() {
+    assert_eq!(lines(&[]).expect("an empty image").count(), 0);
+}
+
+#[test]
+fn an_image_that_is_too_long_has_no_lines() {
+    let image = vec![0; LONGEST_IMAGE + 1];
+    assert_eq!(lines(&image).err(), Some(DecodeError::ImageTooLong));
+}
