@@ -16,7 +16,7 @@ extern "C" {
 enum {
     MRC_DECODE_RECORD = 20,   /* bytes that mrc_decode writes */
     MRC_MRRM_RECORD = 10,     /* bytes that mrc_mrrm writes */
-    MRC_LONGEST_LINE = 67,    /* the most bytes that mrc_line writes, the LF included */
+    MRC_LONGEST_LINE = 85,    /* no line is longer, the LF included: proved */
     MRC_LONGEST_IMAGE = 65536 /* the most bytes that mrc_line lists */
 };
 

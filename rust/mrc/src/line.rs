@@ -4,7 +4,7 @@ use std::fmt::{self, Display, Formatter};
 /// The most bytes that an image has: one for each offset.
 pub const LONGEST_IMAGE: usize = 65_536;
 /// The most bytes that a line has, its LF included.
-pub const LONGEST_LINE: usize = 67;
+pub const LONGEST_LINE: usize = 85;
 
 /// What a line call wrote, and the bytes of the image that its line accounts for.
 #[derive(Clone, Copy, Debug, PartialEq, Eq)]
