@@ -5,6 +5,7 @@ pub mod fields;
 pub mod line;
 pub mod modrm;
 mod operands;
+mod places;
 pub mod record;
 pub mod sizes;
 mod write;

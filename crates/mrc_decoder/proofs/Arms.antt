@@ -1,5 +1,5 @@
--- An arm of the dispatch: the rows of its opcodes are those that its form reads, which antt computes over the arm's keys or its range, less
--- the keys of the other arms.
+-- An arm of the dispatch: its form says what each of its bytes means, which antt computes over the arm's keys, or over its range less the keys
+-- of the other arms.
 -- Assumes nothing.
 use mathlib.Core.Path.{_≡_, refl, ap, _∙_}
 use mathlib.Core.Logic.{⊎-elim}
@@ -11,10 +11,7 @@ use native.Mathlib.Omega.{arith}
 use types.Run.{OneOf, hit}
 use mir.Val.{hasKey}
 use lib.Dec.{T}
-use Rattle.mrc_rules.specs.Forms.{Row, invalid}
-use Rattle.mrc_rules.specs.Table.{rowOf}
-use Rattle.mrc_rules.specs.declared.Answer.{Answer}
-use Rattle.mrc_forms.specs.Behind.{readBy}
+use Rattle.mrc_decoder.specs.Form.{Meaning, overrides, meaningOf}
 
 -- the n numbers from lo on
 abbrev pub upto : ℕ → ℕ → List ℕ
@@ -22,7 +19,7 @@ upto lo zero = []
 upto lo (suc n) = lo ∷ upto (suc lo) n
 
 -- two functions that agree along a range agree at each of its numbers
-each : (f g : ℕ → Row) (n lo k : ℕ) → map f (upto lo n) ≡ map g (upto lo n) → lo ≤ k → k < lo + n → f k ≡ g k
+each : (f g : ℕ → Meaning) (n lo k : ℕ) → map f (upto lo n) ≡ map g (upto lo n) → lo ≤ k → k < lo + n → f k ≡ g k
 each f g zero lo k e l h = absurd (omega arith)
 each f g (suc n) lo k e l h =
     let first : f lo ≡ g lo = cc in
@@ -46,28 +43,24 @@ not-keyed : (kss : List (List ℕ)) (n : ℕ) → Rest kss n → keyed kss n ≡
 not-keyed [] n r = refl
 not-keyed (ks ∷ kss) n r = neither (hasKey ks n) (keyed kss n) (λ h. r .1 (hit ks n h)) (not-keyed kss n (r .0))
 
--- the rows by f, but for the keys
-abbrev pub unkeyed : List (List ℕ) → (ℕ → Row) → ℕ → Row
-unkeyed kss f n = cond (keyed kss n) invalid (f n)
+-- the meanings by f, but for the keys
+abbrev pub unkeyed : List (List ℕ) → (ℕ → Meaning) → ℕ → Meaning
+unkeyed kss f n = cond (keyed kss n) overrides (f n)
 
-pub ranged : (kss : List (List ℕ)) (f : ℕ → Row) (lo n opcode : ℕ) → map (unkeyed kss f) (upto lo n) ≡ map (unkeyed kss rowOf) (upto lo n)
-    → lo ≤ opcode → opcode < lo + n → Rest kss opcode → f opcode ≡ rowOf opcode
-ranged kss f lo n opcode e l h r =
-    let out = not-keyed kss opcode r in
-    let same = each (unkeyed kss f) (unkeyed kss rowOf) n lo opcode e l h in
+pub ranged : (kss : List (List ℕ)) (f : ℕ → Meaning) (lo n byte : ℕ) → map (unkeyed kss f) (upto lo n) ≡ map (unkeyed kss meaningOf) (upto lo n)
+    → lo ≤ byte → byte < lo + n → Rest kss byte → f byte ≡ meaningOf byte
+ranged kss f lo n byte e l h r =
+    let out = not-keyed kss byte r in
+    let same = each (unkeyed kss f) (unkeyed kss meaningOf) n lo byte e l h in
     rw out at same
 
--- the rows by f, at the keys of an arm
-pub keys : (ks : List ℕ) (f : ℕ → Row) (opcode : ℕ) → map f ks ≡ map rowOf ks → OneOf ks opcode → f opcode ≡ rowOf opcode
-keys [] f opcode e o = absurd o
-keys (k ∷ []) f opcode e o =
-    let first : f k ≡ rowOf k = cc in
+-- the meanings by f, at the keys of an arm
+pub keys : (ks : List ℕ) (f : ℕ → Meaning) (byte : ℕ) → map f ks ≡ map meaningOf ks → OneOf ks byte → f byte ≡ meaningOf byte
+keys [] f byte e o = absurd o
+keys (k ∷ []) f byte e o =
+    let first : f k ≡ meaningOf k = cc in
     rw o first
-keys (k ∷ j ∷ ks) f opcode e o =
-    let first : f k ≡ rowOf k = cc in
-    let others : map f (j ∷ ks) ≡ map rowOf (j ∷ ks) = cc in
-    ⊎-elim (λ q. rw q first) (λ m. keys (j ∷ ks) f opcode others m) o
-
--- then what follows is read by that row
-pub by-row : (opcode : ℕ) (l : List ℕ) {row : Row} → row ≡ rowOf opcode → readBy opcode row l ≡ readBy opcode (rowOf opcode) l
-by-row opcode l e = ap (λ (row : Row). readBy opcode row l) e
+keys (k ∷ j ∷ ks) f byte e o =
+    let first : f k ≡ meaningOf k = cc in
+    let others : map f (j ∷ ks) ≡ map meaningOf (j ∷ ks) = cc in
+    ⊎-elim (λ q. rw q first) (λ m. keys (j ∷ ks) f byte others m) o

@@ -1,4 +1,6 @@
 pub mod Arms
+pub mod Opcodes
 pub mod Steps
 pub mod Wrapping
 pub mod Decoding
+pub mod Whole

@@ -1,2 +1,3 @@
-pub mod Dispatch
+pub mod Form
+pub mod Codes
 pub mod Wrap

@@ -1,20 +1,14 @@
 -- What a prefix makes of the answer behind it: the decoder calls itself after the prefix, with the budget one lower, and wraps what comes back.
 -- Both counts grow by one.
 use Prim.Native.Nat.{ℕ, _+_, _<_, _^_}
-use mathlib.Core.Bool.{cond}
 use Rattle.mrc_instruction.specs.declared.errors.Refusal.{Refusal}
 use Rattle.mrc_instruction.specs.declared.errors.Refusal.the-variants.{EndOfInput, CouldNotReadExtraBytes, InvalidDataSizeEncoding, InvalidIndirectMemoryEncoding, InvalidModRegRMEncoding, InvalidOpCode, InvalidRegisterEncoding, InvalidSegmentEncoding, InvalidPrefix, TooManyPrefixes, OutsideInput, NoRoom, ImageTooLong}
 use Rattle.mrc_instruction.specs.declared.instruction.Repeated.{Repeated}
 use Rattle.mrc_instruction.specs.declared.instruction.Instruction.{Instruction}
 use Rattle.mrc_rules.specs.declared.Answer.{Answer}
 use Rattle.mrc_rules.specs.Answer.{taken, prefixes}
-use Rattle.mrc_rules.specs.Prefixes.{isOverride, isRepeat, Result, reads, refuses, made, under}
+use Rattle.mrc_rules.specs.Prefixes.{Result, reads, refuses, made, under}
 use Rattle.mrc_rules.specs.Decode.{answer}
-use Rattle.mrc_decoder.specs.declared.prefixes.Prefix.{Prefix}
-
--- which kind of prefix a byte is
-abbrev pub prefixOf : ℕ → Prefix
-prefixOf b = cond (isOverride b) Prefix.Override (cond (isRepeat b) Prefix.Repeat Prefix.No)
 
 -- a refusal under an override: too many prefixes passes through; any other, an inner override's too, becomes InvalidPrefix with this override,
 -- which is the earlier one

@@ -1,4 +1,4 @@
-// Prefixes: which bytes they are, and what one makes of the answer to the bytes behind it.
+// Prefixes: what one makes of the answer to the bytes behind it.
 use mrc_instruction::errors::Refusal;
 use mrc_instruction::instruction::Instruction;
 use mrc_instruction::instruction::OperandSet;
@@ -11,29 +11,7 @@ ghost use mathlib.Core.Path.{_≡_};
 ghost use mathlib.Core.Option.{some};
 ghost use Rattle.mrc_instruction.specs.declared.instruction.Repeated.{Repeated};
 ghost use Rattle.mrc_rules.specs.Prefixes.{inSegment, repeatOf};
-ghost use Rattle.mrc_decoder.specs.Wrap.{prefixOf, refusalUnder, underOverride, withRepeat, Small};
-
-// What a byte is, before an instruction.
-pub enum Prefix {
-    No,
-    Override,
-    Repeat,
-}
-
-// Segment overrides are 26, 2E, 36, 3E; repeats are F2 and F3.
-pub fn prefix_of(byte: u8) -> Prefix
-    ensures { λ r. ⌜ r ≡ prefixOf byte ⌝ }
-{
-    match byte {
-        0x26 => Prefix::Override,
-        0x2E => Prefix::Override,
-        0x36 => Prefix::Override,
-        0x3E => Prefix::Override,
-        0xF2 => Prefix::Repeat,
-        0xF3 => Prefix::Repeat,
-        _ => Prefix::No,
-    }
-}
+ghost use Rattle.mrc_decoder.specs.Wrap.{refusalUnder, underOverride, withRepeat, Small};
 
 // The operand in another segment, where it is Direct or Indirect.
 pub fn override_segment(operand: Operand, segment: Segment) -> Operand

@@ -1,4 +1,3 @@
 pub mod Heard
-pub mod Picked
-pub mod Unary
-pub mod Whole
+pub mod Behind
+pub mod Tested

@@ -1,35 +1,32 @@
-// Answers with no prefix: what was taken behind the opcode, and the opcode besides.
+// Answers with no prefix.
 use mrc_instruction::errors::Refusal;
 use mrc_instruction::instruction::Instruction;
 use mrc_instruction::instruction::OperandSet;
 use mrc_instruction::operation::Operation;
 use mrc_rules::Answer;
 ghost use mathlib.Core.Path.{_≡_};
-ghost use Prim.Native.Nat.{_<_, _^_};
 ghost use Rattle.mrc_instruction.specs.Instruction.{plain};
 ghost use Rattle.mrc_instruction.specs.Reading.{got, stopped};
-ghost use Rattle.mrc_forms.specs.Behind.{behind};
+ghost use Rattle.mrc_forms.specs.Behind.{alone};
 
-// An instruction, with the bytes taken behind its opcode.
+// An instruction, with the bytes taken.
 pub fn decoded(operation: Operation, operands: OperandSet, taken: usize) -> Answer
-    requires { ⌜ taken < 2 ^ 63 ⌝ }
-    ensures { λ r. ⌜ r ≡ behind (got (plain operation operands) taken) ⌝ }
+    ensures { λ r. ⌜ r ≡ alone (got (plain operation operands) taken) ⌝ }
 {
     Answer::Decoded {
         instruction: Instruction::new(operation, operands),
-        taken: taken + 1,
+        taken,
         prefixes: 0,
     }
 }
 
-// A refusal, with the bytes taken behind the opcode.
+// A refusal, with the bytes taken.
 pub fn refused(refusal: Refusal, taken: usize) -> Answer
-    requires { ⌜ taken < 2 ^ 63 ⌝ }
-    ensures { λ r. ⌜ r ≡ behind (stopped refusal taken) ⌝ }
+    ensures { λ r. ⌜ r ≡ alone (stopped refusal taken) ⌝ }
 {
     Answer::Refused {
         refusal,
-        taken: taken + 1,
+        taken,
         prefixes: 0,
     }
 }

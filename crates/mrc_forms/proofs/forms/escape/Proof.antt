@@ -1,11 +1,11 @@
 -- One reading, and then done.
 -- Assumes nothing.
-use mathlib.Core.Path.{refl, sym, ap, _∙_}
+use mathlib.Core.Path.{refl, sym, _∙_}
 use native.Mathlib.Omega.{arith}
 use Rattle.mrc_instruction.specs.Reading.{aByte}
 use Rattle.mrc_instruction.proofs.Then.{took, done-at, stop-at}
 use Rattle.mrc_instruction.proofs.Heard.{byte-is}
-use Rattle.mrc_forms.specs.Behind.{behind}
+use Rattle.mrc_forms.proofs.Behind.{got-behind, stop-behind}
 use borrow.Author.Needs.{needs}
 use Rattle.mrc_forms.proofs.forms.escape.Statement.{statement}
 use Rattle.mrc_forms.proofs.forms.escape.Tie as tie
@@ -16,20 +16,26 @@ read-u8-requires c κs = search needs
 enum-known-n : tie.Need-enum-known-n
 enum-known-n c = search needs
 
+add-decoded : tie.Need-add-decoded
+add-decoded c = omega (arith, took aByte (c .before .before .before .before .before .args .s .now) (c .before .before .before .before .before .args .at) (byte-is (sym (c .before .n .given .1) ∙ c .before .before .before .read-u8 .ensures)))
+
 decoded-requires : tie.Need-decoded-requires
-decoded-requires c κs = omega (arith, took aByte (c .before .before .before .before .before .args .s .now) (c .before .before .before .before .before .args .at) (byte-is (sym (c .before .n .given .1) ∙ c .before .before .before .read-u8 .ensures)))
+decoded-requires c κs = search needs
+
+returns : tie.Need-returns
+returns c = c .decoded .ensures ∙ got-behind (done-at aByte _ (c .before .before .before .before .before .before .args .s .now) (c .before .before .before .before .before .before .args .at) (byte-is (sym (c .before .before .n .given .1) ∙ c .before .before .before .before .read-u8 .ensures)) refl)
 
 enum-known-e : tie.Need-enum-known-e
 enum-known-e c = search needs
 
-refused-requires : tie.Need-refused-requires
-refused-requires c κs = omega (arith, took aByte (c .before .before .before .before .before .args .s .now) (c .before .before .before .before .before .args .at) (byte-is (sym (c .before .e .given .1) ∙ c .before .before .before .read-u8 .ensures)))
+add-refused : tie.Need-add-refused
+add-refused c = omega (arith, took aByte (c .before .before .before .before .before .args .s .now) (c .before .before .before .before .before .args .at) (byte-is (sym (c .before .e .given .1) ∙ c .before .before .before .read-u8 .ensures)))
 
-returns : tie.Need-returns
-returns c = rw (c .decoded .ensures) (ap behind (done-at aByte _ (c .before .before .before .before .before .before .args .s .now) (c .before .before .before .before .before .before .args .at) (byte-is (sym (c .before .before .n .given .1) ∙ c .before .before .before .before .read-u8 .ensures)) refl))
+refused-requires : tie.Need-refused-requires
+refused-requires c κs = search needs
 
 returns-2 : tie.Need-returns-2
-returns-2 c = c .refused .ensures ∙ ap behind (stop-at aByte _ (c .before .before .before .before .before .before .args .s .now) (c .before .before .before .before .before .before .args .at) (byte-is (sym (c .before .before .e .given .1) ∙ c .before .before .before .before .read-u8 .ensures)))
+returns-2 c = c .refused .ensures ∙ stop-behind (stop-at aByte _ (c .before .before .before .before .before .before .args .s .now) (c .before .before .before .before .before .before .args .at) (byte-is (sym (c .before .before .e .given .1) ∙ c .before .before .before .before .read-u8 .ensures)))
 
 pub escape-spec : {M : Type 1} → statement M
 escape-spec =
@@ -37,8 +43,10 @@ escape-spec =
     (tie.spec
     read-u8-requires
     enum-known-n
+    add-decoded
     decoded-requires
-    enum-known-e
-    refused-requires
     returns
+    enum-known-e
+    add-refused
+    refused-requires
     returns-2)

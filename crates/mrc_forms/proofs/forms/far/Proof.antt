@@ -1,12 +1,12 @@
 -- Two readings, and then done. The sums fit, since what a reading took is there.
 -- Assumes nothing.
-use mathlib.Core.Path.{refl, sym, ap, _∙_}
+use mathlib.Core.Path.{refl, sym, _∙_}
 use Prim.Native.Nat.{_+_}
 use native.Mathlib.Omega.{arith}
 use Rattle.mrc_instruction.specs.Reading.{aWord}
 use Rattle.mrc_instruction.proofs.Then.{took, then-at, done-at, stop-at}
 use Rattle.mrc_instruction.proofs.Heard.{word-is}
-use Rattle.mrc_forms.specs.Behind.{behind}
+use Rattle.mrc_forms.proofs.Behind.{got-behind, stop-behind}
 use borrow.Author.Needs.{needs}
 use Rattle.mrc_forms.proofs.forms.far.Statement.{statement}
 use Rattle.mrc_forms.proofs.forms.far.Tie as tie
@@ -29,8 +29,14 @@ enum-known-segment c = search needs
 add-decoded : tie.Need-add-decoded
 add-decoded c = omega (arith, took aWord (c .before .before .before .before .before .before .before .before .before .args .s .now) (c .before .before .before .before .before .before .before .before .before .args .at) (word-is (sym (c .before .before .before .before .before .offset .given .1) ∙ c .before .before .before .before .before .before .before .read-u16 .ensures)), took aWord (c .before .before .before .before .before .before .before .before .before .args .s .now) (c .before .before .before .before .before .before .before .before .before .args .at + c .before .before .before .before .before .offset .given .0 .1 .0) (word-is (sym (c .before .segment .given .1) ∙ c .before .before .before .read-u162 .ensures)))
 
+add-decoded-2 : tie.Need-add-decoded-2
+add-decoded-2 c = omega (arith, took aWord (c .before .before .before .before .before .before .before .before .before .args .s .now) (c .before .before .before .before .before .before .before .before .before .args .at) (word-is (sym (c .before .before .before .before .before .offset .given .1) ∙ c .before .before .before .before .before .before .before .read-u16 .ensures)), took aWord (c .before .before .before .before .before .before .before .before .before .args .s .now) (c .before .before .before .before .before .before .before .before .before .args .at + c .before .before .before .before .before .offset .given .0 .1 .0) (word-is (sym (c .before .segment .given .1) ∙ c .before .before .before .read-u162 .ensures)))
+
 decoded-requires : tie.Need-decoded-requires
-decoded-requires c κs = omega (arith, took aWord (c .before .before .before .before .before .before .before .before .before .args .s .now) (c .before .before .before .before .before .before .before .before .before .args .at) (word-is (sym (c .before .before .before .before .before .offset .given .1) ∙ c .before .before .before .before .before .before .before .read-u16 .ensures)), took aWord (c .before .before .before .before .before .before .before .before .before .args .s .now) (c .before .before .before .before .before .before .before .before .before .args .at + c .before .before .before .before .before .offset .given .0 .1 .0) (word-is (sym (c .before .segment .given .1) ∙ c .before .before .before .read-u162 .ensures)))
+decoded-requires c κs = search needs
+
+returns : tie.Need-returns
+returns c = c .decoded .ensures ∙ got-behind (then-at aWord _ (c .before .before .before .before .before .before .before .before .before .before .args .s .now) (c .before .before .before .before .before .before .before .before .before .before .args .at) (word-is (sym (c .before .before .before .before .before .before .offset .given .1) ∙ c .before .before .before .before .before .before .before .before .read-u16 .ensures)) (done-at aWord _ (c .before .before .before .before .before .before .before .before .before .before .args .s .now) (c .before .before .before .before .before .before .before .before .before .before .args .at + c .before .before .before .before .before .before .offset .given .0 .1 .0) (word-is (sym (c .before .before .segment .given .1) ∙ c .before .before .before .before .read-u162 .ensures)) refl))
 
 enum-known-e : tie.Need-enum-known-e
 enum-known-e c = search needs
@@ -38,23 +44,26 @@ enum-known-e c = search needs
 add-refused : tie.Need-add-refused
 add-refused c = omega (arith, took aWord (c .before .before .before .before .before .before .before .before .before .args .s .now) (c .before .before .before .before .before .before .before .before .before .args .at) (word-is (sym (c .before .before .before .before .before .offset .given .1) ∙ c .before .before .before .before .before .before .before .read-u16 .ensures)), took aWord (c .before .before .before .before .before .before .before .before .before .args .s .now) (c .before .before .before .before .before .before .before .before .before .args .at + c .before .before .before .before .before .offset .given .0 .1 .0) (word-is (sym (c .before .e .given .1) ∙ c .before .before .before .read-u162 .ensures)))
 
+add-refused-2 : tie.Need-add-refused-2
+add-refused-2 c = omega (arith, took aWord (c .before .before .before .before .before .before .before .before .before .args .s .now) (c .before .before .before .before .before .before .before .before .before .args .at) (word-is (sym (c .before .before .before .before .before .offset .given .1) ∙ c .before .before .before .before .before .before .before .read-u16 .ensures)), took aWord (c .before .before .before .before .before .before .before .before .before .args .s .now) (c .before .before .before .before .before .before .before .before .before .args .at + c .before .before .before .before .before .offset .given .0 .1 .0) (word-is (sym (c .before .e .given .1) ∙ c .before .before .before .read-u162 .ensures)))
+
 refused-requires : tie.Need-refused-requires
-refused-requires c κs = omega (arith, took aWord (c .before .before .before .before .before .before .before .before .before .args .s .now) (c .before .before .before .before .before .before .before .before .before .args .at) (word-is (sym (c .before .before .before .before .before .offset .given .1) ∙ c .before .before .before .before .before .before .before .read-u16 .ensures)), took aWord (c .before .before .before .before .before .before .before .before .before .args .s .now) (c .before .before .before .before .before .before .before .before .before .args .at + c .before .before .before .before .before .offset .given .0 .1 .0) (word-is (sym (c .before .e .given .1) ∙ c .before .before .before .read-u162 .ensures)))
+refused-requires c κs = search needs
+
+returns-2 : tie.Need-returns-2
+returns-2 c = c .refused .ensures ∙ stop-behind (then-at aWord _ (c .before .before .before .before .before .before .before .before .before .before .args .s .now) (c .before .before .before .before .before .before .before .before .before .before .args .at) (word-is (sym (c .before .before .before .before .before .before .offset .given .1) ∙ c .before .before .before .before .before .before .before .before .read-u16 .ensures)) (stop-at aWord _ (c .before .before .before .before .before .before .before .before .before .before .args .s .now) (c .before .before .before .before .before .before .before .before .before .before .args .at + c .before .before .before .before .before .before .offset .given .0 .1 .0) (word-is (sym (c .before .before .e .given .1) ∙ c .before .before .before .before .read-u162 .ensures))))
 
 enum-known-e-2 : tie.Need-enum-known-e-2
 enum-known-e-2 c = search needs
 
+add-refused-3 : tie.Need-add-refused-3
+add-refused-3 c = omega (arith, took aWord (c .before .before .before .before .before .args .s .now) (c .before .before .before .before .before .args .at) (word-is (sym (c .before .e2 .given .1) ∙ c .before .before .before .read-u16 .ensures)))
+
 refused-requires-2 : tie.Need-refused-requires-2
-refused-requires-2 c κs = omega (arith, took aWord (c .before .before .before .before .before .args .s .now) (c .before .before .before .before .before .args .at) (word-is (sym (c .before .e2 .given .1) ∙ c .before .before .before .read-u16 .ensures)))
-
-returns : tie.Need-returns
-returns c = rw (c .decoded .ensures) (ap behind (then-at aWord _ (c .before .before .before .before .before .before .before .before .before .before .args .s .now) (c .before .before .before .before .before .before .before .before .before .before .args .at) (word-is (sym (c .before .before .before .before .before .before .offset .given .1) ∙ c .before .before .before .before .before .before .before .before .read-u16 .ensures)) (done-at aWord _ (c .before .before .before .before .before .before .before .before .before .before .args .s .now) (c .before .before .before .before .before .before .before .before .before .before .args .at + c .before .before .before .before .before .before .offset .given .0 .1 .0) (word-is (sym (c .before .before .segment .given .1) ∙ c .before .before .before .before .read-u162 .ensures)) refl)))
-
-returns-2 : tie.Need-returns-2
-returns-2 c = rw (c .refused .ensures) (ap behind (then-at aWord _ (c .before .before .before .before .before .before .before .before .before .before .args .s .now) (c .before .before .before .before .before .before .before .before .before .before .args .at) (word-is (sym (c .before .before .before .before .before .before .offset .given .1) ∙ c .before .before .before .before .before .before .before .before .read-u16 .ensures)) (stop-at aWord _ (c .before .before .before .before .before .before .before .before .before .before .args .s .now) (c .before .before .before .before .before .before .before .before .before .before .args .at + c .before .before .before .before .before .before .offset .given .0 .1 .0) (word-is (sym (c .before .before .e .given .1) ∙ c .before .before .before .before .read-u162 .ensures)))))
+refused-requires-2 c κs = search needs
 
 returns-3 : tie.Need-returns-3
-returns-3 c = rw (c .refused2 .ensures) (ap behind (stop-at aWord _ (c .before .before .before .before .before .before .args .s .now) (c .before .before .before .before .before .before .args .at) (word-is (sym (c .before .before .e2 .given .1) ∙ c .before .before .before .before .read-u16 .ensures))))
+returns-3 c = c .refused2 .ensures ∙ stop-behind (stop-at aWord _ (c .before .before .before .before .before .before .args .s .now) (c .before .before .before .before .before .before .args .at) (word-is (sym (c .before .before .e2 .given .1) ∙ c .before .before .before .before .read-u16 .ensures)))
 
 pub far-spec : {M : Type 1} → statement M
 far-spec =
@@ -66,12 +75,15 @@ far-spec =
     read-u16-requires-2
     enum-known-segment
     add-decoded
+    add-decoded-2
     decoded-requires
+    returns
     enum-known-e
     add-refused
+    add-refused-2
     refused-requires
-    enum-known-e-2
-    refused-requires-2
-    returns
     returns-2
+    enum-known-e-2
+    add-refused-3
+    refused-requires-2
     returns-3)

@@ -1,11 +1,11 @@
 -- One reading, and then done.
 -- Assumes nothing.
-use mathlib.Core.Path.{refl, sym, ap, _∙_}
+use mathlib.Core.Path.{refl, sym, _∙_}
 use native.Mathlib.Omega.{arith}
 use Rattle.mrc_rules.specs.Forms.{anImmediate}
 use Rattle.mrc_instruction.proofs.Then.{took, done-at, stop-at}
 use Rattle.mrc_forms.proofs.Heard.{immediate-is}
-use Rattle.mrc_forms.specs.Behind.{behind}
+use Rattle.mrc_forms.proofs.Behind.{got-behind, stop-behind}
 use borrow.Author.Needs.{needs}
 use Rattle.mrc_forms.proofs.forms.on_immediate.Statement.{statement}
 use Rattle.mrc_forms.proofs.forms.on_immediate.Tie as tie
@@ -16,20 +16,26 @@ read-immediate-requires c κs = search needs
 enum-known-immediate : tie.Need-enum-known-immediate
 enum-known-immediate c = search needs
 
+add-decoded : tie.Need-add-decoded
+add-decoded c = omega (arith, took (anImmediate (c .before .before .before .before .before .args .size)) (c .before .before .before .before .before .args .s .now) (c .before .before .before .before .before .args .at) (immediate-is (sym (c .before .immediate .given .1) ∙ c .before .before .before .read-immediate .ensures)))
+
 decoded-requires : tie.Need-decoded-requires
-decoded-requires c κs = omega (arith, took (anImmediate (c .before .before .before .before .before .args .size)) (c .before .before .before .before .before .args .s .now) (c .before .before .before .before .before .args .at) (immediate-is (sym (c .before .immediate .given .1) ∙ c .before .before .before .read-immediate .ensures)))
+decoded-requires c κs = search needs
+
+returns : tie.Need-returns
+returns c = c .decoded .ensures ∙ got-behind (done-at (anImmediate (c .before .before .before .before .before .before .args .size)) _ (c .before .before .before .before .before .before .args .s .now) (c .before .before .before .before .before .before .args .at) (immediate-is (sym (c .before .before .immediate .given .1) ∙ c .before .before .before .before .read-immediate .ensures)) refl)
 
 enum-known-e : tie.Need-enum-known-e
 enum-known-e c = search needs
 
-refused-requires : tie.Need-refused-requires
-refused-requires c κs = omega (arith, took (anImmediate (c .before .before .before .before .before .args .size)) (c .before .before .before .before .before .args .s .now) (c .before .before .before .before .before .args .at) (immediate-is (sym (c .before .e .given .1) ∙ c .before .before .before .read-immediate .ensures)))
+add-refused : tie.Need-add-refused
+add-refused c = omega (arith, took (anImmediate (c .before .before .before .before .before .args .size)) (c .before .before .before .before .before .args .s .now) (c .before .before .before .before .before .args .at) (immediate-is (sym (c .before .e .given .1) ∙ c .before .before .before .read-immediate .ensures)))
 
-returns : tie.Need-returns
-returns c = rw (c .decoded .ensures) (ap behind (done-at (anImmediate (c .before .before .before .before .before .before .args .size)) _ (c .before .before .before .before .before .before .args .s .now) (c .before .before .before .before .before .before .args .at) (immediate-is (sym (c .before .before .immediate .given .1) ∙ c .before .before .before .before .read-immediate .ensures)) refl))
+refused-requires : tie.Need-refused-requires
+refused-requires c κs = search needs
 
 returns-2 : tie.Need-returns-2
-returns-2 c = c .refused .ensures ∙ ap behind (stop-at (anImmediate (c .before .before .before .before .before .before .args .size)) _ (c .before .before .before .before .before .before .args .s .now) (c .before .before .before .before .before .before .args .at) (immediate-is (sym (c .before .before .e .given .1) ∙ c .before .before .before .before .read-immediate .ensures)))
+returns-2 c = c .refused .ensures ∙ stop-behind (stop-at (anImmediate (c .before .before .before .before .before .before .args .size)) _ (c .before .before .before .before .before .before .args .s .now) (c .before .before .before .before .before .before .args .at) (immediate-is (sym (c .before .before .e .given .1) ∙ c .before .before .before .before .read-immediate .ensures)))
 
 pub on-immediate-spec : {M : Type 1} → statement M
 on-immediate-spec =
@@ -37,8 +43,10 @@ on-immediate-spec =
     (tie.spec
     read-immediate-requires
     enum-known-immediate
+    add-decoded
     decoded-requires
-    enum-known-e
-    refused-requires
     returns
+    enum-known-e
+    add-refused
+    refused-requires
     returns-2)
