@@ -4,3 +4,4 @@ pub mod Steps
 pub mod Wrapping
 pub mod Decoding
 pub mod Whole
+pub mod Main

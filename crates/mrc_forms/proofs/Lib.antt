@@ -1,3 +1,4 @@
 pub mod Heard
 pub mod Behind
 pub mod Tested
+pub mod Main

@@ -136,14 +136,14 @@ pub fn immediate_to_accumulator(operation: Operation, opcode: u8, s: &[u8], at: 
     let size = operand_size(opcode);
     match read_immediate(size, s, at) {
         ImmediateRead::Got(immediate, n) => {
-            let destination = Operand::Register(SizedRegisterEncoding(
+            let accumulator = Operand::Register(SizedRegisterEncoding(
                 RegisterEncoding::AlAx,
                 size,
             ));
             let source = Operand::Immediate(immediate);
             return decoded(
                 operation,
-                OperandSet::DestinationAndSource(destination, source),
+                OperandSet::DestinationAndSource(accumulator, source),
                 n + 1,
             );
         }

@@ -38,14 +38,11 @@ pub fn exchange(opcode: u8) -> Answer
     ensures { λ r. ⌜ r ≡ readBy opcode (exchangeRow (registerOf (opcode % 8))) [] ⌝ }
 {
     let register = RegisterEncoding::from_low_bits(opcode);
-    let destination = Operand::Register(SizedRegisterEncoding(
-        RegisterEncoding::AlAx,
-        OperandSize::Word,
-    ));
+    let ax = Operand::Register(SizedRegisterEncoding(RegisterEncoding::AlAx, OperandSize::Word));
     let source = Operand::Register(SizedRegisterEncoding(register, OperandSize::Word));
     decoded(
         Operation::XCHG,
-        OperandSet::DestinationAndSource(destination, source),
+        OperandSet::DestinationAndSource(ax, source),
         1,
     )
 }
@@ -56,10 +53,10 @@ pub fn in_dx(opcode: u8) -> Answer
 {
     let size = operand_size(opcode);
     let accumulator = Operand::Register(SizedRegisterEncoding(RegisterEncoding::AlAx, size));
-    let port = Operand::Register(SizedRegisterEncoding(RegisterEncoding::DlDx, OperandSize::Word));
+    let dx = Operand::Register(SizedRegisterEncoding(RegisterEncoding::DlDx, OperandSize::Word));
     decoded(
         Operation::IN,
-        OperandSet::DestinationAndSource(accumulator, port),
+        OperandSet::DestinationAndSource(accumulator, dx),
         1,
     )
 }
@@ -70,10 +67,10 @@ pub fn out_dx(opcode: u8) -> Answer
 {
     let size = operand_size(opcode);
     let accumulator = Operand::Register(SizedRegisterEncoding(RegisterEncoding::AlAx, size));
-    let port = Operand::Register(SizedRegisterEncoding(RegisterEncoding::DlDx, OperandSize::Word));
+    let dx = Operand::Register(SizedRegisterEncoding(RegisterEncoding::DlDx, OperandSize::Word));
     decoded(
         Operation::OUT,
-        OperandSet::DestinationAndSource(port, accumulator),
+        OperandSet::DestinationAndSource(dx, accumulator),
         1,
     )
 }
@@ -130,11 +127,11 @@ pub fn register_and_immediate(opcode: u8, s: &[u8], at: usize) -> Answer
     match read_immediate(size, s, at) {
         ImmediateRead::Got(immediate, n) => {
             let register = RegisterEncoding::from_low_bits(opcode);
-            let destination = Operand::Register(SizedRegisterEncoding(register, size));
+            let reg = Operand::Register(SizedRegisterEncoding(register, size));
             let source = Operand::Immediate(immediate);
             return decoded(
                 Operation::MOV,
-                OperandSet::DestinationAndSource(destination, source),
+                OperandSet::DestinationAndSource(reg, source),
                 n + 1,
             );
         }
@@ -183,11 +180,11 @@ pub fn byte_to_register_or_memory(s: &[u8], at: usize) -> Answer
             ByteRead::Got(immediate, k) => {
                 let register_or_memory = mrrm.register_or_memory;
                 let destination = register_or_memory.into_operand(OperandSize::Word);
-                let source = Operand::Immediate(Immediate::Word(widened(immediate)));
+                let word = Operand::Immediate(Immediate::Word(widened(immediate)));
                 let operation = group80_operation(byte / 8 % 8);
                 return decoded(
                     operation,
-                    OperandSet::DestinationAndSource(destination, source),
+                    OperandSet::DestinationAndSource(destination, word),
                     n + k + 1,
                 );
             }
@@ -207,11 +204,11 @@ pub fn shift_by_immediate(opcode: u8, s: &[u8], at: usize) -> Answer
             ImmediateRead::Got(immediate, k) => {
                 let register_or_memory = mrrm.register_or_memory;
                 let destination = register_or_memory.into_operand(size);
-                let source = Operand::Immediate(immediate);
+                let count = Operand::Immediate(immediate);
                 let operation = group2_operation(byte / 8 % 8);
                 return decoded(
                     operation,
-                    OperandSet::DestinationAndSource(destination, source),
+                    OperandSet::DestinationAndSource(destination, count),
                     n + k + 1,
                 );
             }
@@ -232,10 +229,10 @@ pub fn shift_by_count(opcode: u8, s: &[u8], at: usize) -> Answer
             let destination = register_or_memory.into_operand(size);
             let operation = group2_operation(byte / 8 % 8);
             if opcode / 2 % 2 == 1 {
-                let count = Operand::Register(SizedRegisterEncoding(RegisterEncoding::ClCx, size));
+                let cl = Operand::Register(SizedRegisterEncoding(RegisterEncoding::ClCx, size));
                 return decoded(
                     operation,
-                    OperandSet::DestinationAndSource(destination, count),
+                    OperandSet::DestinationAndSource(destination, cl),
                     n + 1,
                 );
             }

@@ -1,0 +1,33 @@
+-- What the forms of a destination and a source settle: the order of the two. Where a bit turns it, the readings agree in all else.
+-- Assumes nothing.
+use Prim.Native.Nat.{ℕ}
+use mathlib.Core.Path.{_≡_, refl}
+use mathlib.Core.Bool.{Bool, true, false, cond}
+use mathlib.Core.List.{List}
+use lib.Dec.{ltb}
+use Rattle.mrc_instruction.specs.declared.errors.Refusal.{Refusal}
+use Rattle.mrc_instruction.specs.declared.operand.OperandSize.{OperandSize}
+use Rattle.mrc_instruction.specs.declared.operation.Operation.{Operation}
+use Rattle.mrc_instruction.specs.Reading.{Reading, done, refuse, readFrom, aWord}
+use Rattle.mrc_instruction.specs.Mrrm.{regField, aModRM}
+use Rattle.mrc_rules.specs.Forms.{Tail, rmReg, regRm, rmSegment, segmentRm, accDirect, directAcc, rest}
+use Rattle.mrc_pairs.specs.Order.{exchanged, exchangedIn}
+use Rattle.mrc_pairs.proofs.Order.{mirrored}
+
+-- the register or memory and the register, with d and without it
+pub register-order : (opcode : ℕ) (op : Operation) (size : OperandSize) (l : List ℕ)
+    → readFrom (rest opcode (regRm op size)) l ≡ exchangedIn (readFrom (rest opcode (rmReg op size)) l)
+register-order opcode op size = mirrored aModRM _ _ (λ m l. refl)
+
+-- 8E and 8C
+picked : (t : Bool) (i : Tail) (e : Refusal) (l : List ℕ)
+    → readFrom (cond t (done (exchanged i)) (refuse e)) l ≡ exchangedIn (readFrom (cond t (done i) (refuse e)) l)
+picked true i e l = refl
+picked false i e l = refl
+
+pub segment-order : (opcode : ℕ) (l : List ℕ) → readFrom (rest opcode segmentRm) l ≡ exchangedIn (readFrom (rest opcode rmSegment) l)
+segment-order opcode = mirrored aModRM _ _ (λ m. picked (ltb (regField m) 4) _ (Refusal.InvalidSegmentEncoding (regField m)))
+
+-- A2 and A3, and A0 and A1
+pub direct-order : (opcode : ℕ) (size : OperandSize) (l : List ℕ) → readFrom (rest opcode (directAcc size)) l ≡ exchangedIn (readFrom (rest opcode (accDirect size)) l)
+direct-order opcode size = mirrored aWord _ _ (λ w l. refl)

@@ -1,0 +1,17 @@
+-- "'rm,reg' means destination, source": an instruction with its two operands exchanged.
+use Rattle.mrc_instruction.specs.declared.instruction.OperandSet.{OperandSet}
+use Rattle.mrc_instruction.specs.Instruction.{plain}
+use Rattle.mrc_instruction.specs.Reading.{Outcome, got, stopped}
+use Rattle.mrc_rules.specs.Forms.{Tail}
+
+abbrev pub turned : OperandSet → OperandSet
+turned OperandSet.None = OperandSet.None
+turned (OperandSet.Destination destination) = OperandSet.Destination destination
+turned (OperandSet.DestinationAndSource destination source) = OperandSet.DestinationAndSource source destination
+
+abbrev pub exchanged : Tail → Tail
+exchanged i = record { operation = i .operation; operands = turned (i .operands); repeat = i .repeat }
+
+abbrev pub exchangedIn : Outcome Tail → Outcome Tail
+exchangedIn (got i n) = got (exchanged i) n
+exchangedIn (stopped e n) = stopped e n
