@@ -36,8 +36,8 @@ placed d o t e h g q =
     let front : length (take o d ++ t) ≡ o + length t = length-append (take o d) t ∙ ap (λ (n : ℕ). n + length t) (length-take-le o d h) in
     let split : putMid o k d e ≡ (take o d ++ t) ++ (x ++ postOf o k d) = ap (λ (l : List ℕ). take o d ++ (l ++ postOf o k d)) q ∙ simp append-assoc in
     let after : x ++ postOf o k d ≡ drop (o + length t) d =
-        sym (drop-append-le (length t) m (postOf o k d) (rw (mid-length d o h) g)) ∙ ap (drop (length t)) (take-append-drop k (drop o d))
-        ∙ drop-drop (length t) o d in
+    sym (drop-append-le (length t) m (postOf o k d) (rw (mid-length d o h) g)) ∙ ap (drop (length t)) (take-append-drop k (drop o d))
+    ∙ drop-drop (length t) o d in
     record {
       end = refl;
       most = omega arith;
@@ -156,8 +156,8 @@ module _
 pub page-moves : (s : List ℕ) (at room : ℕ) → length s ≤ offsets → at < length s → longest ≤ room → at < at + takenOf s (pageOf s at room)
 page-moves s at room h k r =
     let m : 1 ≤ takenOf s (pageOf s at room) =
-        rw (page-is s at room h, enough s (length s) (suc (length s)) at (omega arith) (omega arith))
-        (moves s (length s) at room k (omega (arith, line-longest s at))) in
+    rw (page-is s at room h, enough s (length s) (suc (length s)) at (omega arith) (omega arith))
+    (moves s (length s) at room k (omega (arith, line-longest s at))) in
     omega arith
 
 -- the page is done where nothing more fits or is left
@@ -165,7 +165,7 @@ module _ {s : List ℕ} {at : ℕ} {out₀ out : List ℕ} {o next : ℕ} (h : l
   ends : fitting s (length out₀ - o) (linesFrom (p .f) s next) ≡ [] → Paged s at out₀ (record { len = o; next = next }) out
   ends e =
       let whole : pageOf s at (length out₀) ≡ p .lines =
-          page-is s at (length out₀) h ∙ p .page ∙ ap (λ (x : List ℕ). p .lines ++ x) e ∙ append-nil (p .lines) in
+      page-is s at (length out₀) h ∙ p .page ∙ ap (λ (x : List ℕ). p .lines ++ x) e ∙ append-nil (p .lines) in
       let n : next ≡ at + takenOf s (pageOf s at (length out₀)) = p .goes ∙ ap (λ (x : List ℕ). at + takenOf s x) (sym whole) in
       record {
         len = omega (arith, p .put .end, ap (λ (x : List ℕ). length (textOf s x)) whole);

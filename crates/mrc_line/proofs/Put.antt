@@ -38,8 +38,8 @@ over {s = s} {at = at} {t = t} {d = d} {r = r} {u = u} {e = e} {q = q} l h p o =
     let was : d ≡ a ++ (t ++ z) = sym (take-append-drop r d) ∙ ap (λ (x : List ℕ). x ++ z) (p .text) ∙ append-assoc a t z in
     let front : take at d ≡ a = ap (take at) was ∙ take-at a (t ++ z) at la in
     let back : drop q d ≡ drop (length u) t ++ z =
-        ap (λ (m : ℕ). drop m d) (o .end) ∙ sym (drop-drop (length u) at d) ∙ ap (λ (x : List ℕ). drop (length u) (drop at x)) was
-        ∙ ap (drop (length u)) (drop-at a (t ++ z) at la) ∙ drop-append-le (length u) t z lu in
+    ap (λ (m : ℕ). drop m d) (o .end) ∙ sym (drop-drop (length u) at d) ∙ ap (λ (x : List ℕ). drop (length u) (drop at x)) was
+    ∙ ap (drop (length u)) (drop-at a (t ++ z) at la) ∙ drop-append-le (length u) t z lu in
     let left : length (drop (length u) t) ≡ r - q = length-drop (length u) t ∙ omega (arith, p .end, o .end) in
     let upto : r ≡ q + (r - q) = omega arith in
     record {

@@ -71,7 +71,13 @@ fn put_opening(buf: &mut [u8], at: usize, size: OperandSize, segment: Segment) -
     put_bytes(buf, c, b":[")
 }
 
-pub fn put_direct(buf: &mut [u8], at: usize, segment: Segment, offset: u16, size: OperandSize) -> usize
+pub fn put_direct(
+    buf: &mut [u8],
+    at: usize,
+    segment: Segment,
+    offset: u16,
+    size: OperandSize,
+) -> usize
     requires { ⌜ at + 14 ≤ length (now buf) ⌝ }
     ensures { λ r. ⌜ Put 14 (now (buf .entry)) at (memoryText size segment (hex4 offset)) (now (buf .exit)) r ⌝ }
 {

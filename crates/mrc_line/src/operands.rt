@@ -90,7 +90,13 @@ fn put_alone(buf: &mut [u8], at: usize, start: u16, taken: u16, destination: Ope
 }
 
 // A space and the operands, joined by a comma and a space, of an instruction that starts at `start` and takes `taken` bytes.
-pub fn put_operands(buf: &mut [u8], at: usize, start: u16, taken: u16, operands: OperandSet) -> usize
+pub fn put_operands(
+    buf: &mut [u8],
+    at: usize,
+    start: u16,
+    taken: u16,
+    operands: OperandSet,
+) -> usize
     requires { ⌜ at + 43 ≤ length (now buf) ⌝ }
     ensures { λ r. ⌜ Put 43 (now (buf .entry)) at (operandsText start taken operands) (now (buf .exit)) r ⌝ }
 {

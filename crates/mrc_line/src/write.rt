@@ -14,6 +14,7 @@ ghost use Rattle.mrc_line.specs.Line.{Listed};
 
 // The prefix bytes that a line may have, and the room that any line fits into.
 const BUDGET: u8 = 15;
+
 const LONGEST: usize = 85;
 
 // Where `out` may be too short, the line is made in a buffer of the function's own first.
