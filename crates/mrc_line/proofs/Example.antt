@@ -7,7 +7,7 @@ use Prim.Native.String.{String}
 use Rattle.mrc_rules.specs.Table.{rows, rowOf}
 use Rattle.mrc_instruction.specs.Reading.{aByte, aWord}
 use Rattle.mrc_line.specs.Text.{bytes}
-use Rattle.mrc_line.specs.Line.{headText, instructionText, dbText, lineText, lineTaken, lineEnd}
+use Rattle.mrc_line.specs.Line.{headText, instructionText, stepText, lineText, lineTaken, lineEnd}
 use Rattle.mrc_line.specs.Page.{linesFrom, linesOf}
 
 abbrev pub image : List ℕ
@@ -24,5 +24,5 @@ printed =
     ∷ []
 
 pub six-lines : map (lineText image) (linesOf image) ≡ map (λ t. bytes t ++ lineEnd) printed
-unfolding linesFrom lineText lineTaken headText instructionText dbText rows rowOf aByte aWord
+unfolding linesFrom lineText lineTaken headText instructionText stepText rows rowOf aByte aWord
 six-lines = refl

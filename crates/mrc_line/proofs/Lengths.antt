@@ -25,11 +25,11 @@ use Rattle.mrc_instruction.specs.declared.instruction.Repeated.{Repeated}
 use Rattle.mrc_instruction.specs.declared.instruction.Instruction.{Instruction}
 use Rattle.mrc_rules.specs.declared.Answer.{Answer}
 use Rattle.mrc_rules.specs.Decode.{decodeAt}
-use Rattle.mrc_line.specs.Text.{bytes, hex2, hex4, pairs, padded, shown, fieldWidth}
+use Rattle.mrc_line.specs.Text.{bytes, hex4, pairs, padded, shown, fieldWidth}
 use Rattle.mrc_line.specs.Target.{targetOf}
 use Rattle.mrc_line.specs.Names.{nameOf}
 use Rattle.mrc_line.specs.Operands.{registerText, segmentText, modeText, sizeText, displacementText, immediateText, memoryText, operandText, aloneText, besideText, operandsText}
-use Rattle.mrc_line.specs.Line.{headText, repeatText, instructionText, dbText, stepText, lineText, longest, budget}
+use Rattle.mrc_line.specs.Line.{headText, repeatText, instructionText, bodyText, stepTaken, stepText, lineText, longest, budget}
 use Rattle.mrc_line.proofs.Put.{pairs-length}
 
 name : (o : Operation) → length (nameOf o) ≤ 6
@@ -215,15 +215,19 @@ repeated Repeated.None = lit≤ tt
 repeated (Repeated.Some Repeat.Equal) = lit≤ tt
 repeated (Repeated.Some Repeat.NotEqual) = lit≤ tt
 
+body : (start b : ℕ) (a : Answer) → length (bodyText start b a) ≤ 55
+unfolding instructionText
+body start b (Answer.Decoded i n p) =
+    let o = operandsText start n (i .operands) in
+    omega (arith, repeated (i .repeat), name (i .operation), operands start n (i .operands), length-append (repeatText (i .repeat)) (nameOf (i .operation) ++ o), length-append (nameOf (i .operation)) o)
+body start b (Answer.Refused e n p) = lit≤ tt
+
 step : (s : List ℕ) (at : ℕ) (a : Answer) → length (stepText s at a) ≤ longest
-unfolding instructionText dbText
-step s at (Answer.Decoded i n p) =
-    let t = take n (drop at s) in
-    let o = operandsText at (length t) (i .operands) in
-    omega (arith, head at t, repeated (i .repeat), name (i .operation), operands at (length t) (i .operands), length-append (headText at t) (repeatText (i .repeat) ++ (nameOf (i .operation) ++ (o ++ (10 ∷ [])))), length-append (repeatText (i .repeat)) (nameOf (i .operation) ++ (o ++ (10 ∷ []))), length-append (nameOf (i .operation)) (o ++ (10 ∷ [])), length-append o (10 ∷ []))
-step s at (Answer.Refused e n p) =
-    let b = getD s at 0 in
-    omega (arith, head at (b ∷ []), length-append (headText at (b ∷ [])) (bytes "DB " ++ (hex2 b ++ (10 ∷ []))))
+unfolding stepText
+step s at a =
+    let t = take (stepTaken a) (drop at s) in
+    let b = bodyText at (getD s at 0) a in
+    omega (arith, head at t, body at (getD s at 0) a, length-append (headText at t) (b ++ (10 ∷ [])), length-append b (10 ∷ []))
 
 pub line-longest : (s : List ℕ) (at : ℕ) → length (lineText s at) ≤ longest
 unfolding lineText

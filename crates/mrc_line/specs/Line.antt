@@ -32,24 +32,27 @@ repeatText (Repeated.Some Repeat.NotEqual) = bytes "REPNE "
 abbrev pub lineEnd : List ℕ
 lineEnd = 10 ∷ []
 
--- the line of an instruction, with the bytes that it takes
-unfoldable pub instructionText : ℕ → List ℕ → Instruction → List ℕ
-instructionText start taken i =
-    headText start taken ++ (repeatText (i .repeat) ++ (nameOf (i .operation) ++ (operandsText start (length taken) (i .operands) ++ lineEnd)))
+-- "`REPE ` or `REPNE ` if repeated; the name; if operands, a space and them": an instruction that starts at an offset and takes so many bytes
+unfoldable pub instructionText : ℕ → ℕ → Instruction → List ℕ
+instructionText start taken i = repeatText (i .repeat) ++ (nameOf (i .operation) ++ operandsText start taken (i .operands))
 
--- "A refused decode lists its first byte, alone in the byte field, as `DB XX`"
-unfoldable pub dbText : ℕ → ℕ → List ℕ
-dbText start b = headText start (b ∷ []) ++ (bytes "DB " ++ (hex2 b ++ lineEnd))
+-- "A refused decode lists its first byte .. as `DB XX`"
+abbrev pub dbText : ℕ → List ℕ
+dbText b = bytes "DB " ++ hex2 b
 
--- the line of what was decoded at a place of an image
-abbrev pub stepText : List ℕ → ℕ → Answer → List ℕ
-stepText s at (Answer.Decoded i n p) = instructionText at (take n (drop at s)) i
-stepText s at (Answer.Refused e n p) = dbText at (getD s at 0)
+-- what stands behind the byte field, by what was decoded and the first byte
+abbrev pub bodyText : ℕ → ℕ → Answer → List ℕ
+bodyText start b (Answer.Decoded i n p) = instructionText start n i
+bodyText start b (Answer.Refused e n p) = dbText b
 
--- the bytes that it accounts for: "A refused decode .. answers 1 taken, and the next line starts one byte on"
+-- the bytes that a line accounts for: "A refused decode .. answers 1 taken, and the next line starts one byte on"
 abbrev pub stepTaken : Answer → ℕ
 stepTaken (Answer.Decoded i n p) = n
 stepTaken (Answer.Refused e n p) = 1
+
+-- the line of what was decoded at a place of an image
+unfoldable pub stepText : List ℕ → ℕ → Answer → List ℕ
+stepText s at a = headText at (take (stepTaken a) (drop at s)) ++ (bodyText at (getD s at 0) a ++ lineEnd)
 
 -- the most bytes that a line has, whatever the record
 abbrev pub longest : ℕ

@@ -5,8 +5,8 @@ use mathlib.Core.List.{List, [], _∷_, _++_}
 use Prim.Native.Char.{code}
 use Prim.Native.String.{String, [] as ε, _∷_ as _◂_}
 use Prim.Native.Nat.{ℕ, _+_, _-_, _≤_, _/_, _%_}
-use lib.Dec.{ltb, eqb}
-use lib.ListN.{length, take, drop, replicate}
+use lib.Dec.{eqb}
+use lib.ListN.{length, getD, take, drop, replicate}
 
 -- the bytes of a text's characters
 abbrev pub bytes : String → List ℕ
@@ -15,7 +15,7 @@ bytes (c ◂ s) = code c ∷ bytes s
 
 -- "upper-case hex digits": the digit of a number below 16
 abbrev pub digitOf : ℕ → ℕ
-digitOf n = cond (ltb n 10) (48 + n) (55 + n)
+digitOf n = getD (bytes "0123456789ABCDEF") n 0
 
 -- a byte in two digits and a word in four
 abbrev pub hex2 : ℕ → List ℕ

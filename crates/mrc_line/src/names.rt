@@ -232,6 +232,21 @@ fn letters(row: [u8; 6]) -> usize
     n
 }
 
+// The first n letters of a row; each length that names have is copied as a number of bytes that is known.
+fn put_letters(buf: &mut [u8], at: usize, row: [u8; 6], n: usize) -> usize
+    requires { ⌜ (at + 6 ≤ length (now buf)) × (n ≤ 6) ⌝ }
+    ensures { λ r. ⌜ Put 6 (now (buf .entry)) at (take n row) (now (buf .exit)) r ⌝ }
+{
+    match n {
+        2 => put_bytes(buf, at, &row[..2]),
+        3 => put_bytes(buf, at, &row[..3]),
+        4 => put_bytes(buf, at, &row[..4]),
+        5 => put_bytes(buf, at, &row[..5]),
+        6 => put_bytes(buf, at, &row[..6]),
+        _ => put_bytes(buf, at, &row[..n]),
+    }
+}
+
 // An operation's name: its row of the table, taken out by value, measured, and put without its padding.
 pub fn put_name(buf: &mut [u8], at: usize, names: &[[u8; 6]; 97], operation: Operation) -> usize
     requires { ⌜ (at + 6 ≤ length (now buf)) × (now names ≡ map rowOf operations) ⌝ }
@@ -240,5 +255,5 @@ pub fn put_name(buf: &mut [u8], at: usize, names: &[[u8; 6]; 97], operation: Ope
     let i = place(operation);
     let row = names[i];
     let n = letters(row);
-    put_bytes(buf, at, &row[..n])
+    put_letters(buf, at, row, n)
 }

@@ -6,7 +6,6 @@ use crate::text::put_byte;
 use crate::text::put_bytes;
 use crate::text::put_field;
 use crate::text::put_hex2;
-use crate::text::put_hex4;
 use crate::text::put_spaces;
 use mrc_instruction::instruction::Instruction;
 use mrc_instruction::instruction::Repeat;
@@ -18,7 +17,7 @@ ghost use Prim.Native.Nat.{_+_, _<_, _≤_, min};
 ghost use lib.ListN.{length};
 ghost use Rattle.mrc_line.specs.Text.{Put};
 ghost use Rattle.mrc_line.specs.Names.{rowOf, operations};
-ghost use Rattle.mrc_line.specs.Line.{headText, repeatText, instructionText, dbText, stepText, stepTaken, longest};
+ghost use Rattle.mrc_line.specs.Line.{headText, repeatText, instructionText, dbText, bodyText, stepText, stepTaken, longest};
 
 fn least(a: usize, b: usize) -> usize
     ensures { λ r. ⌜ r ≡ min a b ⌝ }
@@ -26,16 +25,17 @@ fn least(a: usize, b: usize) -> usize
     if a < b { a } else { b }
 }
 
-// The offset and the bytes taken.
+// The offset, its high byte first, and the bytes taken.
 fn put_head(buf: &mut [u8], at: usize, start: u16, taken: &[u8]) -> usize
     requires { ⌜ at + 29 ≤ length (now buf) ⌝ }
     ensures { λ r. ⌜ Put 29 (now (buf .entry)) at (headText start (now (taken .entry))) (now (buf .exit)) r ⌝ }
 {
     let n = least(SHOWN, taken.len());
-    let a = put_hex4(buf, at, start);
-    let b = put_spaces(buf, a, 2);
-    let c = put_field(buf, b, &taken[..n]);
-    put_spaces(buf, c, 2)
+    let a = put_hex2(buf, at, (start / 256) as u8);
+    let b = put_hex2(buf, a, (start % 256) as u8);
+    let c = put_spaces(buf, b, 2);
+    let d = put_field(buf, c, &taken[..n]);
+    put_spaces(buf, d, 2)
 }
 
 fn put_repeat(buf: &mut [u8], at: usize, repeated: Repeated) -> usize
@@ -51,39 +51,77 @@ fn put_repeat(buf: &mut [u8], at: usize, repeated: Repeated) -> usize
     }
 }
 
-// The line of an instruction that starts at an offset and takes these bytes.
+// The instruction that starts at an offset and takes so many bytes.
 fn put_instruction(
     buf: &mut [u8],
     at: usize,
     names: &[[u8; 6]; 97],
     start: u16,
-    taken: &[u8],
+    taken: u16,
     instruction: Instruction,
 ) -> usize
-    requires { ⌜ (at + longest ≤ length (now buf)) × (now names ≡ map rowOf operations) × (length (now taken) < 65536) ⌝ }
-    ensures { λ r. ⌜ Put longest (now (buf .entry)) at (instructionText start (now (taken .entry)) instruction) (now (buf .exit)) r ⌝ }
+    requires { ⌜ (at + 55 ≤ length (now buf)) × (now names ≡ map rowOf operations) ⌝ }
+    ensures { λ r. ⌜ Put 55 (now (buf .entry)) at (instructionText start taken instruction) (now (buf .exit)) r ⌝ }
 {
-    let count = taken.len() as u16;
     let repeat = instruction.repeat;
     let operation = instruction.operation;
     let operands = instruction.operands;
-    let a = put_head(buf, at, start, taken);
-    let b = put_repeat(buf, a, repeat);
-    let c = put_name(buf, b, names, operation);
-    let d = put_operands(buf, c, start, count, operands);
-    put_byte(buf, d, b'\n')
+    let a = put_repeat(buf, at, repeat);
+    let b = put_name(buf, a, names, operation);
+    put_operands(buf, b, start, taken, operands)
 }
 
-// The line of a byte that is not decoded.
-fn put_db(buf: &mut [u8], at: usize, start: u16, byte: u8) -> usize
-    requires { ⌜ at + longest ≤ length (now buf) ⌝ }
-    ensures { λ r. ⌜ Put longest (now (buf .entry)) at (dbText start byte) (now (buf .exit)) r ⌝ }
+// A byte that is not decoded.
+fn put_db(buf: &mut [u8], at: usize, byte: u8) -> usize
+    requires { ⌜ at + 5 ≤ length (now buf) ⌝ }
+    ensures { λ r. ⌜ Put 5 (now (buf .entry)) at (dbText byte) (now (buf .exit)) r ⌝ }
 {
-    let taken = [byte];
-    let a = put_head(buf, at, start, &taken);
-    let b = put_bytes(buf, a, b"DB ");
-    let c = put_hex2(buf, b, byte);
-    put_byte(buf, c, b'\n')
+    let a = put_bytes(buf, at, b"DB ");
+    put_hex2(buf, a, byte)
+}
+
+// How many bytes a step accounts for.
+fn step_taken(answer: Answer) -> usize
+    ensures { λ r. ⌜ r ≡ stepTaken answer ⌝ }
+{
+    match answer {
+        Answer::Decoded {
+            instruction: _,
+            taken,
+            prefixes: _,
+        } => taken,
+        Answer::Refused {
+            refusal: _,
+            taken: _,
+            prefixes: _,
+        } => 1,
+    }
+}
+
+// What stands behind the bytes: the instruction, or its first byte.
+fn put_body(
+    buf: &mut [u8],
+    at: usize,
+    names: &[[u8; 6]; 97],
+    start: u16,
+    byte: u8,
+    answer: Answer,
+) -> usize
+    requires { ⌜ (at + 55 ≤ length (now buf)) × (now names ≡ map rowOf operations) × (stepTaken answer < 65536) ⌝ }
+    ensures { λ r. ⌜ Put 55 (now (buf .entry)) at (bodyText start byte answer) (now (buf .exit)) r ⌝ }
+{
+    match answer {
+        Answer::Decoded {
+            instruction,
+            taken,
+            prefixes: _,
+        } => put_instruction(buf, at, names, start, taken as u16, instruction),
+        Answer::Refused {
+            refusal: _,
+            taken: _,
+            prefixes: _,
+        } => put_db(buf, at, byte),
+    }
 }
 
 // Where a line ends, and the bytes that it accounts for.
@@ -101,33 +139,14 @@ pub fn put_step(
     start: usize,
     answer: Answer,
 ) -> Written
-    requires { ⌜ (at + longest ≤ length (now buf)) × (now names ≡ map rowOf operations) × (start < 65536) × (stepTaken answer < 65536) × (start + stepTaken answer ≤ length (now image)) ⌝ }
+    requires { ⌜ (at + longest ≤ length (now buf)) × (now names ≡ map rowOf operations) × (start < 65536) × (1 ≤ stepTaken answer) × (stepTaken answer < 65536) × (start + stepTaken answer ≤ length (now image)) ⌝ }
     ensures { λ r. ⌜ Put longest (now (buf .entry)) at (stepText (now (image .entry)) start answer) (now (buf .exit)) (r .end) × (r .taken ≡ stepTaken answer) ⌝ }
 {
-    match answer {
-        Answer::Decoded {
-            instruction,
-            taken,
-            prefixes: _,
-        } => {
-            let next = start + taken;
-            let end = put_instruction(
-                buf,
-                at,
-                names,
-                start as u16,
-                &image[start..next],
-                instruction,
-            );
-            Written { end, taken }
-        }
-        Answer::Refused {
-            refusal: _,
-            taken: _,
-            prefixes: _,
-        } => {
-            let end = put_db(buf, at, start as u16, image[start]);
-            Written { end, taken: 1 }
-        }
-    }
+    let taken = step_taken(answer);
+    let next = start + taken;
+    let offset = start as u16;
+    let a = put_head(buf, at, offset, &image[start..next]);
+    let b = put_body(buf, a, names, offset, image[start], answer);
+    let end = put_byte(buf, b, b'\n');
+    Written { end, taken }
 }

@@ -25,20 +25,17 @@ pub fn write_line(out: &mut [u8], names: &[[u8; 6]; 97], image: &[u8], at: usize
     let answer = decode_instruction(image, at, BUDGET);
     if LONGEST <= out.len() {
         let w = put_step(out, 0, names, image, at, answer);
-        return LineAnswer::Line {
-            len: w.end,
-            taken: w.taken,
-        };
+        let len = w.end;
+        let taken = w.taken;
+        return LineAnswer::Line { len, taken };
     }
     let mut buf = [0u8; LONGEST];
     let w = put_step(&mut buf, 0, names, image, at, answer);
     let len = w.end;
+    let taken = w.taken;
     if out.len() < len {
         return LineAnswer::Refused(Refusal::NoRoom);
     }
     put_bytes(out, 0, &buf[..len]);
-    LineAnswer::Line {
-        len,
-        taken: w.taken,
-    }
+    LineAnswer::Line { len, taken }
 }

@@ -1,84 +1,74 @@
--- Each arm knows what was decoded.
+-- Three pieces in a row: the head, with as many bytes as the step takes, what stands behind it, and LF.
 -- Assumes nothing.
-use mathlib.Core.Path.{_≡_, ap, sym, _∙_}
+use mathlib.Core.Path.{_≡_, ap, _∙_}
+use mathlib.Core.List.{List, _++_}
 use Prim.Native.Nat.{ℕ, _+_, _-_}
 use native.Mathlib.Omega.{arith}
-use lib.ListN.{length, take, drop, length-take}
-use Rattle.mrc_line.specs.Line.{instructionText, stepText, stepTaken}
-use Rattle.mrc_line.proofs.Put.{same}
+use lib.ListN.{getD, take, drop}
+use Rattle.mrc_line.specs.Line.{headText, bodyText, stepTaken, stepText, lineEnd}
+use Rattle.mrc_line.proofs.Put.{then, gives}
 use borrow.Author.Needs.{needs}
 use Rattle.mrc_line.proofs.step.put_step.Statement.{statement}
 use Rattle.mrc_line.proofs.step.put_step.Tie as tie
 
-enum-known-answer : tie.Need-enum-known-answer
-enum-known-answer c = search needs
+step-taken-requires : tie.Need-step-taken-requires
+step-taken-requires c κs = search needs
 
 add-next : tie.Need-add-next
-add-next c = omega (arith, ap stepTaken (c .before .answer .given .1))
+add-next c = search needs
 
-cast-put-instruction : tie.Need-cast-put-instruction
-cast-put-instruction c = search needs
+cast-offset : tie.Need-cast-offset
+cast-offset c = search needs
 
-sub-put-instruction : tie.Need-sub-put-instruction
-sub-put-instruction c = search needs
+sub-put-head : tie.Need-sub-put-head
+sub-put-head c = search needs
 
-part-put-instruction-start : tie.Need-part-put-instruction-start
-part-put-instruction-start c = search needs
+part-put-head-start : tie.Need-part-put-head-start
+part-put-head-start c = search needs
 
-part-put-instruction-end : tie.Need-part-put-instruction-end
-part-put-instruction-end c = omega (arith, ap stepTaken (c .before .before .answer .given .1))
+part-put-head-end : tie.Need-part-put-head-end
+part-put-head-end c = search needs
 
-put-instruction-requires : tie.Need-put-instruction-requires
-put-instruction-requires c κs =
-    let t = ap stepTaken (c .before .before .before .answer .given .1) in
-    (c .before .before .before .before .before .before .before .pre .0, c .before .before .before .before .before .before .before .pre .1, omega (arith, length-take (c .before .before .before .before .before .before .before .args .start + c .before .before .before .answer .given .0 .1 .0 - c .before .before .before .before .before .before .before .args .start) (drop (c .before .before .before .before .before .before .before .args .start) (c .before .before .before .before .before .before .before .args .image .now))))
+put-head-requires : tie.Need-put-head-requires
+put-head-requires c κs = search needs
 
-enum-told : tie.Need-enum-told
-enum-told c = search needs
+shared-slice-read-put-body : tie.Need-shared-slice-read-put-body
+shared-slice-read-put-body c = search needs
 
-cast-put-db : tie.Need-cast-put-db
-cast-put-db c = search needs
+put-body-requires : tie.Need-put-body-requires
+put-body-requires c κs = search needs
 
-shared-slice-read-put-db : tie.Need-shared-slice-read-put-db
-shared-slice-read-put-db c = omega (arith, ap stepTaken (c .before .before .enum-told .given .1))
-
-put-db-requires : tie.Need-put-db-requires
-put-db-requires c κs = search needs
+put-byte-requires : tie.Need-put-byte-requires
+put-byte-requires c κs = search needs
 
 same-length : tie.Need-same-length
 same-length c = search needs
 
 returns : tie.Need-returns
+unfolding stepText
 returns c =
-    let s = c .before .before .before .before .before .before .before .before .before .before .args .image .now in
-    let at = c .before .before .before .before .before .before .before .before .before .before .args .start in
-    let n = c .before .before .before .before .before .before .answer .given .0 .1 .0 in
-    let e : at + n - at ≡ n = omega arith in
-    (same (ap (λ (m : ℕ). instructionText at (take m (drop at s)) (c .before .before .before .before .before .before .answer .given .0 .0)) e ∙ sym (ap (stepText s at) (c .before .before .before .before .before .before .answer .given .1))) (c .before .before .put-instruction .ensures), sym (ap stepTaken (c .before .before .before .before .before .before .answer .given .1)))
-
-same-length-2 : tie.Need-same-length-2
-same-length-2 c = search needs
-
-returns-2 : tie.Need-returns-2
-returns-2 c =
-    (same (sym (ap (stepText (c .before .before .before .before .before .before .before .before .before .args .image .now) (c .before .before .before .before .before .before .before .before .before .args .start)) (c .before .before .before .before .before .enum-told .given .1))) (c .before .before .put-db .ensures), sym (ap stepTaken (c .before .before .before .before .before .enum-told .given .1)))
+    let s = c .before .before .before .before .before .before .before .before .before .before .before .before .before .before .before .before .before .args .image .now in
+    let at = c .before .before .before .before .before .before .before .before .before .before .before .before .before .before .before .before .before .args .start in
+    let a = c .before .before .before .before .before .before .before .before .before .before .before .before .before .before .before .before .before .args .answer in
+    let n : at + c .before .before .before .before .before .before .before .before .before .before .before .before .before .before .step-taken .result - at ≡ stepTaken a = omega (arith, c .before .before .before .before .before .before .before .before .before .before .before .before .before .before .step-taken .ensures) in (
+      gives (omega arith) (ap (λ (m : ℕ). headText at (take m (drop at s)) ++ (bodyText at (getD s at 0) a ++ lineEnd)) n)
+          (then (c .before .before .before .before .before .before .before .before .before .before .before .put-head .ensures) (then (c .before .before .before .before .before .before .put-body .ensures) (c .before .before .put-byte .ensures))),
+      c .before .before .before .before .before .before .before .before .before .before .before .before .before .before .step-taken .ensures,
+    )
 
 pub put-step-spec : {M : Type 1} → statement M
 put-step-spec =
     tie.close
     (tie.spec
-    enum-known-answer
+    step-taken-requires
     add-next
-    cast-put-instruction
-    sub-put-instruction
-    part-put-instruction-start
-    part-put-instruction-end
-    put-instruction-requires
-    enum-told
-    cast-put-db
-    shared-slice-read-put-db
-    put-db-requires
+    cast-offset
+    sub-put-head
+    part-put-head-start
+    part-put-head-end
+    put-head-requires
+    shared-slice-read-put-body
+    put-body-requires
+    put-byte-requires
     same-length
-    returns
-    same-length-2
-    returns-2)
+    returns)

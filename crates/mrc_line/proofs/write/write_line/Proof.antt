@@ -26,7 +26,7 @@ put-step-requires : tie.Need-put-step-requires
 put-step-requires c κs =
     let s = c .before .before .before .before .before in
     let t = takes (s .args .image .now) (s .args .at) (c .before .before .decode-instruction .ensures) (s .pre .2) in
-    (c .before .if1 .taken, s .pre .0, omega arith, omega (arith, t .few), t .inside)
+    (c .before .if1 .taken, s .pre .0, omega arith, t .some, omega (arith, t .few), t .inside)
 
 same-length : tie.Need-same-length
 same-length c = search needs
@@ -47,7 +47,7 @@ put-step-requires-2 : tie.Need-put-step-requires-2
 put-step-requires-2 c κs =
     let s = c .before .before .before .before .before in
     let t = takes (s .args .image .now) (s .args .at) (c .before .before .decode-instruction .ensures) (s .pre .2) in
-    (omega arith, s .pre .0, omega arith, omega (arith, t .few), t .inside)
+    (omega arith, s .pre .0, omega arith, t .some, omega (arith, t .few), t .inside)
 
 returns-2 : tie.Need-returns-2
 returns-2 c =
