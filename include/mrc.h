@@ -93,6 +93,10 @@ enum {
  * Byte 1 and bytes 4 to 9 of a refusal are 0. */
 size_t mrc_mrrm(const uint8_t *bytes, size_t length, size_t position, uint8_t *out, size_t room);
 
+/* The counts of a decode, without its record: the bytes taken, plus 65,536 times the prefixes, plus 2^32 times the refusal's
+ * number, which is 0 for an instruction. */
+uint64_t mrc_step(const uint8_t *bytes, size_t length, size_t position, uint8_t budget);
+
 /* What a field names: its code, or 65,536 times the refusal's number plus the field. */
 uint32_t mrc_register(uint8_t field);
 uint32_t mrc_segment(uint8_t field);

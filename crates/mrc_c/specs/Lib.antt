@@ -5,3 +5,4 @@ pub mod Sizes
 pub mod Modrm
 pub mod Written
 pub mod Line
+pub mod Step

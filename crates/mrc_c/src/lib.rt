@@ -8,4 +8,5 @@ mod operands;
 mod places;
 pub mod record;
 pub mod sizes;
+pub mod step;
 mod write;

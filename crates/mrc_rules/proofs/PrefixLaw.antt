@@ -1,4 +1,4 @@
--- The prefix law. From the whole run of prefix bytes at the front, cond within the budget, strike every segment override but the first and
+-- The prefix law. From the whole run of prefix bytes at the front, if within the budget, strike every segment override but the first and
 -- every repeat prefix but the first, and put what remains in either order: before any following bytes, or none, the reading or refusal
 -- stays the same, and both counts fall by the number struck. Two such runs that leave different prefixes, order aside, read differently
 -- before some following bytes.

@@ -1,5 +1,5 @@
 -- Striking prefixes: of a run, every segment override but the first and every repeat but the first. What remains is the first override, if
--- any, and the first repeat, cond any, in one order or the other.
+-- any, and the first repeat, if any, in one order or the other.
 -- Assumes nothing.
 use mathlib.Core.Path.{_≡_, refl, sym, _∙_, ap, ap₂, subst}
 use mathlib.Core.Logic.{_⊎_, inl, inr}

@@ -11,9 +11,10 @@ const REPEATS: usize = 1000;
 /// A name, and the pass over an image.
 pub type Pass = (&'static str, fn(&[u8]) -> usize);
 
-pub const PASSES: [Pass; 8] = [
+pub const PASSES: [Pass; 9] = [
     ("empty", |_| 0),
     ("ours-decode", |image| steps(image, ours)),
+    ("step-decode", |image| steps(image, our_step)),
     ("binding-decode", |image| steps(image, binding)),
     ("rust-decode", |image| steps(image, given_rust)),
     ("ours-lines", |image| steps(image, our_line)),
@@ -54,6 +55,11 @@ fn ours_within(image: &[u8], at: usize, budget: u8) -> usize {
     boundary::decode(image, at, budget, &mut record);
     let taken = u16::from_le_bytes([record[2], record[3]]);
     moved(record[0] == 0, usize::from(taken))
+}
+
+fn our_step(image: &[u8], at: usize) -> usize {
+    let counts = black_box(boundary::step(image, at, USUAL_BUDGET));
+    moved(counts >> 32 == 0, (counts & 0xFFFF) as usize)
 }
 
 fn binding(image: &[u8], at: usize) -> usize {

@@ -31,6 +31,7 @@ mod exported {
         pub fn mrc_segment(field: u8) -> u32;
         pub fn mrc_addressing(field: u8) -> u32;
         pub fn mrc_operand_size(kind: u8, size: u8) -> u8;
+        pub fn mrc_step(bytes: *const u8, length: usize, position: usize, budget: u8) -> u64;
         pub fn mrc_line(
             image: *const u8,
             length: usize,
@@ -77,4 +78,10 @@ pub fn line(image: &[u8], position: usize, out: &mut [u8]) -> u64 {
     let (input, room) = (image.as_ptr(), out.len());
     // SAFETY: as in `decode`.
     unsafe { exported::mrc_line(input, image.len(), position, out.as_mut_ptr(), room) }
+}
+
+/// The bytes taken by a decode, 65,536 times its prefixes, and 2^32 times its refusal's number.
+pub fn step(bytes: &[u8], position: usize, budget: u8) -> u64 {
+    // SAFETY: the slice is valid for its length.
+    unsafe { exported::mrc_step(bytes.as_ptr(), bytes.len(), position, budget) }
 }

@@ -1,0 +1,59 @@
+-- What C and Rust may rely on: each exported call has exactly one answer, and leaves exactly one buffer. Each theorem cites its law.
+-- Assumes nothing.
+use mathlib.Core.Path.{_≡_, refl}
+use mathlib.Core.List.{List}
+use Prim.Native.Nat.{ℕ}
+use lib.ListN.{length}
+use Rattle.mrc_instruction.specs.Promise.{ExactlyOne}
+use Rattle.mrc_instruction.specs.Register.{registerField, segmentField}
+use Rattle.mrc_instruction.specs.Operand.{addressingField, sizeOf}
+use Rattle.mrc_instruction.specs.Reading.{readAt}
+use Rattle.mrc_instruction.specs.Mrrm.{aModRM}
+use Rattle.mrc_instruction.specs.Read.{mrrmRead}
+use Rattle.mrc_instruction.specs.declared.mrrm.MrrmRead.{MrrmRead}
+use Rattle.mrc_instruction.proofs.Unique.{exactly-one}
+use Rattle.mrc_rules.specs.declared.Answer.{Answer}
+use Rattle.mrc_rules.specs.Decode.{decodeAt}
+use Rattle.mrc_c.specs.Record.{recordOf}
+use Rattle.mrc_c.specs.Fields.{registerNumber, segmentNumber, addressingNumber}
+use Rattle.mrc_c.specs.Sizes.{sizeBy, sampleOf, sizedCode}
+use Rattle.mrc_c.specs.Modrm.{modrmRecord}
+use Rattle.mrc_c.specs.Step.{stepCode}
+use Rattle.mrc_c.specs.Written.{Written}
+use Rattle.mrc_c.specs.Line.{LineWritten}
+use Rattle.mrc_c.proofs.Settled as settled
+
+pub decode : (s : List ℕ) (at budget : ℕ) (out : List ℕ) → ExactlyOne {A = ℕ × List ℕ} (λ p. Written (recordOf (decodeAt s at budget)) out (p .0) (p .1))
+decode s at budget out = settled.written-settled (recordOf (decodeAt s at budget)) out
+
+pub step : (s : List ℕ) (at budget : ℕ) → ExactlyOne (λ (r : ℕ). r ≡ stepCode (decodeAt s at budget))
+step s at budget = exactly-one (stepCode (decodeAt s at budget))
+
+pub mrrm : (s : List ℕ) (at : ℕ) (out : List ℕ)
+    → ExactlyOne {A = ℕ × List ℕ} (λ p. Written (modrmRecord (mrrmRead (readAt aModRM s at))) out (p .0) (p .1))
+mrrm s at out = settled.written-settled (modrmRecord (mrrmRead (readAt aModRM s at))) out
+
+pub line : (image : List ℕ) (at : ℕ) (out : List ℕ) → ExactlyOne {A = ℕ × List ℕ} (λ p. LineWritten image at out (p .0) (p .1))
+line = settled.line-settled
+
+pub record-of : (d : Answer) → ExactlyOne (λ (r : List ℕ). r ≡ recordOf d)
+record-of d = exactly-one (recordOf d)
+
+pub fields : (n : ℕ)
+    → ExactlyOne (λ (r : ℕ). r ≡ registerNumber (registerField n)) × ExactlyOne (λ (r : ℕ). r ≡ segmentNumber (segmentField n))
+    × ExactlyOne (λ (r : ℕ). r ≡ addressingNumber (addressingField n))
+fields n = (exactly-one (registerNumber (registerField n)), exactly-one (segmentNumber (segmentField n)), exactly-one (addressingNumber (addressingField n)))
+
+pub operand-size : (kind size : ℕ) → ExactlyOne (λ (r : ℕ). r ≡ sizedCode (sizeOf (sampleOf kind (sizeBy size))))
+operand-size kind size = exactly-one (sizedCode (sizeOf (sampleOf kind (sizeBy size))))
+
+-- a record of a decode has 20 bytes, and one of a ModRM 10
+pub decode-length : (d : Answer) → length (recordOf d) ≡ 20
+unfolding recordOf
+decode-length (Answer.Decoded i n p) = refl
+decode-length (Answer.Refused e n p) = refl
+
+pub mrrm-length : (m : MrrmRead) → length (modrmRecord m) ≡ 10
+unfolding modrmRecord
+mrrm-length (MrrmRead.Got m b n) = refl
+mrrm-length (MrrmRead.Refused e n) = refl

@@ -1,0 +1,64 @@
+-- Each arm knows the answer that it is given, and `number` its refusal's number.
+-- Assumes nothing.
+use mathlib.Core.Path.{sym, ap, _∙_}
+use Rattle.mrc_c.specs.Step.{stepCode}
+use borrow.Author.Needs.{needs}
+use Rattle.mrc_c.proofs.step.mrc_step.Statement.{statement}
+use Rattle.mrc_c.proofs.step.mrc_step.Tie as tie
+
+decode-instruction-requires : tie.Need-decode-instruction-requires
+decode-instruction-requires c κs = tt
+
+enum-known-taken : tie.Need-enum-known-taken
+enum-known-taken c = search needs
+
+mul-result : tie.Need-mul-result
+mul-result c = search needs
+
+add-result : tie.Need-add-result
+add-result c = search needs
+
+enum-known-refusal : tie.Need-enum-known-refusal
+enum-known-refusal c = search needs
+
+number-requires : tie.Need-number-requires
+number-requires c κs = tt
+
+cast-number : tie.Need-cast-number
+cast-number c = search needs
+
+mul-result-2 : tie.Need-mul-result-2
+mul-result-2 c = search needs
+
+add-result-2 : tie.Need-add-result-2
+add-result-2 c = search needs
+
+mul-result-3 : tie.Need-mul-result-3
+mul-result-3 c = search needs
+
+add-result-3 : tie.Need-add-result-3
+add-result-3 c = search needs
+
+returns : tie.Need-returns
+returns c = ap stepCode (sym (c .before .taken .given .1) ∙ c .before .before .before .decode-instruction .ensures)
+
+returns-2 : tie.Need-returns-2
+returns-2 c = rw (c .number .ensures) (ap stepCode (sym (c .before .before .refusal .given .1) ∙ c .before .before .before .before .decode-instruction .ensures))
+
+pub mrc-step-spec : {M : Type 1} → statement M
+mrc-step-spec =
+    tie.close
+    (tie.spec
+    decode-instruction-requires
+    enum-known-taken
+    mul-result
+    add-result
+    enum-known-refusal
+    number-requires
+    cast-number
+    mul-result-2
+    add-result-2
+    mul-result-3
+    add-result-3
+    returns
+    returns-2)

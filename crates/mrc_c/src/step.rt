@@ -1,0 +1,28 @@
+// The counts of a decode for C and Rust.
+use mrc_decoder::decode::decode_instruction;
+use mrc_rules::Answer;
+ghost use mathlib.Core.Path.{_≡_};
+ghost use Rattle.mrc_rules.specs.Decode.{decodeAt};
+ghost use Rattle.mrc_c.specs.Step.{stepCode};
+
+// The bytes taken, 65,536 times the prefixes, and 4,294,967,296 times the refusal's number, 0 for an instruction.
+#[no_mangle]
+pub extern "C" fn mrc_step(s: &[u8], at: usize, budget: u8) -> u64
+    ensures { λ r. ⌜ r ≡ stepCode (decodeAt (now (s .entry)) at budget) ⌝ }
+{
+    match decode_instruction(s, at, budget) {
+        Answer::Decoded {
+            instruction: _,
+            taken,
+            prefixes,
+        } => ((taken % 65536) as u64) + 65536 * ((prefixes % 65536) as u64),
+        Answer::Refused {
+            refusal,
+            taken,
+            prefixes,
+        } => {
+            let number = refusal.number() as u64;
+            ((taken % 65536) as u64) + 65536 * ((prefixes % 65536) as u64) + 4294967296 * number
+        }
+    }
+}
