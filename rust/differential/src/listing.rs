@@ -1,4 +1,4 @@
-//! The listing line of document 01, rendered plainly from the given Rust's answer.
+//! The listing line, rendered plainly from the given Rust's answer.
 
 use crate::compare::hex;
 use crate::oracle::{self, USUAL_BUDGET};

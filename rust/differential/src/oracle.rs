@@ -1,4 +1,4 @@
-//! The given Rust's decoder with what document 01 adds to it: a position, a prefix budget and the two counts.
+//! The given Rust's decoder with what the rules add to it: a position, a prefix budget and the two counts.
 
 use crate::counted::Counted;
 use crate::refusal::Refusal;

@@ -1,4 +1,4 @@
-//! The refusals of document 01, by number.
+//! The refusals, by number.
 
 use mrc_decoder::DecodeError;
 

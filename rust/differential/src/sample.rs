@@ -9,7 +9,7 @@ use std::collections::HashSet;
 const RANDOM_CASES: u64 = 800;
 const SEED: u64 = 8086;
 
-/// Every case once, the readings of document 01 first.
+/// Every case once, the numbered readings first.
 pub fn all() -> Vec<Case> {
     let mut seen = HashSet::new();
     let parts = [
@@ -27,7 +27,7 @@ pub fn all() -> Vec<Case> {
     cases.filter(|case| seen.insert(case.clone())).collect()
 }
 
-/// The numbered readings of document 01 in their order, then those that it has run only.
+/// The numbered readings in their order, then those that it has run only.
 fn readings() -> Vec<Case> {
     let strings: [&[u8]; 14] = [
         &[],
@@ -157,7 +157,7 @@ fn run(pattern: &[u8], length: usize, tail: &[u8]) -> Vec<u8> {
     prefixes.chain(tail.iter().copied()).collect()
 }
 
-/// The image of document 01's listing at every position, beyond its end too, with three budgets.
+/// The image of README's listing at every position, beyond its end too, with three budgets.
 fn positions() -> Vec<Case> {
     let image = vec![
         0x26, 0x8B, 0x47, 0xFE, 0xF3, 0xA4, 0x75, 0xF8, 0x83, 0xC0, 0xFF, 0x60, 0x8B,

@@ -1,4 +1,4 @@
-//! The readings of document 01.
+//! The numbered readings, and those that are only run.
 
 use mrc::{
     decode_at, Address, AddressingMode, Answer, DecodeError, Displacement, Immediate, Instruction,
