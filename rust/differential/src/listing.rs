@@ -53,7 +53,7 @@ fn line_at(image: &[u8], at: usize) -> Line {
 }
 
 /// `next` is the offset of the byte after the instruction.
-fn instruction_text(instruction: &Instruction, next: usize) -> String {
+pub fn instruction_text(instruction: &Instruction, next: usize) -> String {
     let repeat = match instruction.repeat {
         None => "",
         Some(Repeat::Equal) => "REPE ",
