@@ -126,23 +126,23 @@ fn with_word(byte: u8, s: &[u8], at: usize) -> RegisterOrMemoryRead
 }
 
 // A displacement of 0 becomes None.
-fn byte_or_none(displacement: i8) -> Displacement
-    ensures { λ r. ⌜ r ≡ orNone Displacement.Byte displacement ⌝ }
+fn byte_or_none(byte: i8) -> Displacement
+    ensures { λ r. ⌜ r ≡ orNone Displacement.Byte byte ⌝ }
 {
-    if displacement == 0 {
+    if byte == 0 {
         Displacement::None
     } else {
-        Displacement::Byte(displacement)
+        Displacement::Byte(byte)
     }
 }
 
-fn word_or_none(displacement: i16) -> Displacement
-    ensures { λ r. ⌜ r ≡ orNone Displacement.Word displacement ⌝ }
+fn word_or_none(word: i16) -> Displacement
+    ensures { λ r. ⌜ r ≡ orNone Displacement.Word word ⌝ }
 {
-    if displacement == 0 {
+    if word == 0 {
         Displacement::None
     } else {
-        Displacement::Word(displacement)
+        Displacement::Word(word)
     }
 }
 
