@@ -5,6 +5,7 @@ mod names;
 mod operands;
 pub mod page;
 mod registers;
+mod signs;
 mod step;
 pub mod target;
 mod text;

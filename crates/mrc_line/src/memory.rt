@@ -1,7 +1,7 @@
 // The text of operands in memory: `WORD ES:[1234]`, `BYTE DS:[BX+SI-80]`.
 use crate::registers::put_segment;
-use crate::target::magnitude;
-use crate::target::sign;
+use crate::signs::magnitude;
+use crate::signs::sign;
 use crate::text::put_byte;
 use crate::text::put_bytes;
 use crate::text::put_hex2;

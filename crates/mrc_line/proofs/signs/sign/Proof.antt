@@ -2,8 +2,8 @@
 -- Assumes nothing.
 use mir.Facts.{toZ-ofZ}
 use Rattle.mrc_line.proofs.Signed.{Below, Above, below, above}
-use Rattle.mrc_line.proofs.target.sign.Statement.{statement}
-use Rattle.mrc_line.proofs.target.sign.Tie as tie
+use Rattle.mrc_line.proofs.signs.sign.Statement.{statement}
+use Rattle.mrc_line.proofs.signs.sign.Tie as tie
 
 returns : tie.Need-returns
 returns c = below (c .before .args .d) (c .before .fits .d) (rw (toZ-ofZ (c .before .fits .d)) at (c .if1 .taken)) .minus

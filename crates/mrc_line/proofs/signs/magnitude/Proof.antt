@@ -3,8 +3,8 @@
 use mathlib.Core.Path.{ap, sym, _∙_}
 use lib.IntN.{natAbs}
 use Rattle.mrc_line.proofs.Signed.{Below, Above, below, above, word-widens, word-wide}
-use Rattle.mrc_line.proofs.target.magnitude.Statement.{statement}
-use Rattle.mrc_line.proofs.target.magnitude.Tie as tie
+use Rattle.mrc_line.proofs.signs.magnitude.Statement.{statement}
+use Rattle.mrc_line.proofs.signs.magnitude.Tie as tie
 
 cast-wide : tie.Need-cast-wide
 cast-wide c = word-widens (c .args .d) (c .fits .d)
