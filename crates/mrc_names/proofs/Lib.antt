@@ -1,0 +1,4 @@
+pub mod Trimmed
+pub mod Placed
+pub mod Rows
+pub mod Main

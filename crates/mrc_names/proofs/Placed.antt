@@ -1,0 +1,157 @@
+-- Every operation stands among the operations at its place, and the places are in order; so what is computed over the 97 at once holds of each.
+-- Assumes nothing.
+use mathlib.Core.Path.{_≡_, refl, sym, ap, _∙_}
+use mathlib.Core.List.{List, [], _∷_, map}
+use Prim.Native.Nat.{ℕ, zero, suc, _+_, _<_}
+use native.Mathlib.Nat.{le-of-suc-le-suc, not-suc-le-zero}
+use native.Mathlib.Omega.{arith}
+use lib.Dec.{lit<}
+use lib.ListN.{length, getD, List·getD-map}
+use Rattle.mrc_instruction.specs.declared.operation.Operation.{Operation}
+use Rattle.mrc_instruction.specs.declared.operation.Operation.the-variants.{MOV, PUSH, POP, XCHG, IN, OUT, XLATB, LEA, LDS, LES, LAHF, SAHF, PUSHF, POPF, ADD, ADC, INC, AAA, DAA, SUB, SBB, DEC, NEG, CMP, AAS, DAS, MUL, IMUL, AAM, DIV, IDIV, AAD, CBW, CWD, NOT, SHL, SHR, SAR, ROL, ROR, RCL, RCR, AND, TEST, OR, XOR, MOVSB, MOVSW, CMPSB, CMPSW, SCASB, SCASW, LODSB, LODSW, STOSB, STOSW, CALL, JMP, RET, JE, JL, JLE, JB, JBE, JP, JO, JS, JNE, JNL, JNLE, JNB, JNBE, JNP, JNO, JNS, LOOP, LOOPZ, LOOPNZ, JCXZ, INT, INT1, INT3, INTO, IRET, CLC, CMC, STC, CLD, STD, CLI, STI, HLT, WAIT, ESC, LOCK, NOP, SALC}
+use Rattle.mrc_names.specs.Names.{operations}
+use Rattle.mrc_names.specs.Places.{placeOf}
+
+-- an operation's place is one of the 97, and there it stands
+stands : (o : Operation) → (placeOf o < 97) × (getD operations (placeOf o) MOV ≡ o)
+unfolding placeOf
+stands MOV = (lit< tt, refl)
+stands PUSH = (lit< tt, refl)
+stands POP = (lit< tt, refl)
+stands XCHG = (lit< tt, refl)
+stands IN = (lit< tt, refl)
+stands OUT = (lit< tt, refl)
+stands XLATB = (lit< tt, refl)
+stands LEA = (lit< tt, refl)
+stands LDS = (lit< tt, refl)
+stands LES = (lit< tt, refl)
+stands LAHF = (lit< tt, refl)
+stands SAHF = (lit< tt, refl)
+stands PUSHF = (lit< tt, refl)
+stands POPF = (lit< tt, refl)
+stands ADD = (lit< tt, refl)
+stands ADC = (lit< tt, refl)
+stands INC = (lit< tt, refl)
+stands AAA = (lit< tt, refl)
+stands DAA = (lit< tt, refl)
+stands SUB = (lit< tt, refl)
+stands SBB = (lit< tt, refl)
+stands DEC = (lit< tt, refl)
+stands NEG = (lit< tt, refl)
+stands CMP = (lit< tt, refl)
+stands AAS = (lit< tt, refl)
+stands DAS = (lit< tt, refl)
+stands MUL = (lit< tt, refl)
+stands IMUL = (lit< tt, refl)
+stands AAM = (lit< tt, refl)
+stands DIV = (lit< tt, refl)
+stands IDIV = (lit< tt, refl)
+stands AAD = (lit< tt, refl)
+stands CBW = (lit< tt, refl)
+stands CWD = (lit< tt, refl)
+stands NOT = (lit< tt, refl)
+stands SHL = (lit< tt, refl)
+stands SHR = (lit< tt, refl)
+stands SAR = (lit< tt, refl)
+stands ROL = (lit< tt, refl)
+stands ROR = (lit< tt, refl)
+stands RCL = (lit< tt, refl)
+stands RCR = (lit< tt, refl)
+stands AND = (lit< tt, refl)
+stands TEST = (lit< tt, refl)
+stands OR = (lit< tt, refl)
+stands XOR = (lit< tt, refl)
+stands MOVSB = (lit< tt, refl)
+stands MOVSW = (lit< tt, refl)
+stands CMPSB = (lit< tt, refl)
+stands CMPSW = (lit< tt, refl)
+stands SCASB = (lit< tt, refl)
+stands SCASW = (lit< tt, refl)
+stands LODSB = (lit< tt, refl)
+stands LODSW = (lit< tt, refl)
+stands STOSB = (lit< tt, refl)
+stands STOSW = (lit< tt, refl)
+stands CALL = (lit< tt, refl)
+stands JMP = (lit< tt, refl)
+stands RET = (lit< tt, refl)
+stands JE = (lit< tt, refl)
+stands JL = (lit< tt, refl)
+stands JLE = (lit< tt, refl)
+stands JB = (lit< tt, refl)
+stands JBE = (lit< tt, refl)
+stands JP = (lit< tt, refl)
+stands JO = (lit< tt, refl)
+stands JS = (lit< tt, refl)
+stands JNE = (lit< tt, refl)
+stands JNL = (lit< tt, refl)
+stands JNLE = (lit< tt, refl)
+stands JNB = (lit< tt, refl)
+stands JNBE = (lit< tt, refl)
+stands JNP = (lit< tt, refl)
+stands JNO = (lit< tt, refl)
+stands JNS = (lit< tt, refl)
+stands LOOP = (lit< tt, refl)
+stands LOOPZ = (lit< tt, refl)
+stands LOOPNZ = (lit< tt, refl)
+stands JCXZ = (lit< tt, refl)
+stands INT = (lit< tt, refl)
+stands INT1 = (lit< tt, refl)
+stands INT3 = (lit< tt, refl)
+stands INTO = (lit< tt, refl)
+stands IRET = (lit< tt, refl)
+stands CLC = (lit< tt, refl)
+stands CMC = (lit< tt, refl)
+stands STC = (lit< tt, refl)
+stands CLD = (lit< tt, refl)
+stands STD = (lit< tt, refl)
+stands CLI = (lit< tt, refl)
+stands STI = (lit< tt, refl)
+stands HLT = (lit< tt, refl)
+stands WAIT = (lit< tt, refl)
+stands ESC = (lit< tt, refl)
+stands LOCK = (lit< tt, refl)
+stands NOP = (lit< tt, refl)
+stands SALC = (lit< tt, refl)
+
+pub within : (o : Operation) → placeOf o < 97
+within o = stands o .0
+
+pub placed : (o : Operation) → getD operations (placeOf o) MOV ≡ o
+placed o = stands o .1
+
+-- so no two have the same place
+pub own : (o p : Operation) → placeOf o ≡ placeOf p → o ≡ p
+own o p e = sym (placed o) ∙ ap (λ (i : ℕ). getD operations i MOV) e ∙ placed p
+
+-- within a list the default plays no part
+there : {A : Type 0} (l : List A) (i : ℕ) (d e : A) → i < length l → getD l i d ≡ getD l i e
+there [] i d e h = absurd (not-suc-le-zero h)
+there (x ∷ l) zero d e h = refl
+there (x ∷ l) (suc i) d e h = there l i d e (le-of-suc-le-suc h)
+
+-- what a list has of the operations, it has of each at its place
+pub found : {A : Type 0} (f : Operation → A) (d : A) (o : Operation) → getD (map f operations) (placeOf o) d ≡ f o
+found f d o = there (map f operations) (placeOf o) d (f MOV) (within o) ∙ List·getD-map f operations (placeOf o) MOV ∙ ap f (placed o)
+
+-- and what is the same of all is the same of each
+pub each : {A : Type 0} (f g : Operation → A) → map f operations ≡ map g operations → (o : Operation) → f o ≡ g o
+each f g e o = sym (found f (f MOV) o) ∙ ap (λ (l : List _). getD l (placeOf o) (f MOV)) e ∙ found g (f MOV) o
+
+-- n numbers from k on
+from : ℕ → ℕ → List ℕ
+from k zero = []
+from k (suc n) = k ∷ from (suc k) n
+
+from-at : (n k i : ℕ) → i < n → getD (from k n) i 0 ≡ k + i
+unfolding from
+from-at zero k i h = absurd (not-suc-le-zero h)
+from-at (suc n) k zero h = omega arith
+from-at (suc n) k (suc i) h = omega (arith, from-at n (suc k) i (le-of-suc-le-suc h))
+
+-- the places are in order: the operation at a place has that place
+in-order : map placeOf operations ≡ from 0 97
+unfolding placeOf from
+in-order = refl
+
+pub here : (i : ℕ) → i < 97 → {o : Operation} → o ≡ getD operations i MOV → i ≡ placeOf o
+here i h e = omega (arith, from-at 97 0 i h, ap (λ (l : List ℕ). getD l i 0) in-order, there (map placeOf operations) i 0 (placeOf MOV) h, List·getD-map placeOf operations i MOV, ap placeOf e)
