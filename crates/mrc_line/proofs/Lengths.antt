@@ -17,119 +17,19 @@ use Rattle.mrc_instruction.specs.declared.operand.AddressingMode.the-variants.{
 use Rattle.mrc_instruction.specs.declared.operand.Displacement.{Displacement}
 use Rattle.mrc_instruction.specs.declared.operand.Immediate.{Immediate}
 use Rattle.mrc_instruction.specs.declared.operand.Operand.{Operand}
-use Rattle.mrc_instruction.specs.declared.operation.Operation.{Operation}
-use Rattle.mrc_instruction.specs.declared.operation.Operation.the-variants.{MOV, PUSH, POP, XCHG, IN, OUT, XLATB, LEA, LDS, LES, LAHF, SAHF, PUSHF, POPF, ADD, ADC, INC, AAA, DAA, SUB, SBB, DEC, NEG, CMP, AAS, DAS, MUL, IMUL, AAM, DIV, IDIV, AAD, CBW, CWD, NOT, SHL, SHR, SAR, ROL, ROR, RCL, RCR, AND, TEST, OR, XOR, MOVSB, MOVSW, CMPSB, CMPSW, SCASB, SCASW, LODSB, LODSW, STOSB, STOSW, CALL, JMP, RET, JE, JL, JLE, JB, JBE, JP, JO, JS, JNE, JNL, JNLE, JNB, JNBE, JNP, JNO, JNS, LOOP, LOOPZ, LOOPNZ, JCXZ, INT, INT1, INT3, INTO, IRET, CLC, CMC, STC, CLD, STD, CLI, STI, HLT, WAIT, ESC, LOCK, NOP, SALC}
 use Rattle.mrc_instruction.specs.declared.instruction.OperandSet.{OperandSet}
 use Rattle.mrc_instruction.specs.declared.instruction.Repeat.{Repeat}
 use Rattle.mrc_instruction.specs.declared.instruction.Repeated.{Repeated}
 use Rattle.mrc_instruction.specs.declared.instruction.Instruction.{Instruction}
+use Rattle.mrc_names.specs.Names.{nameOf}
+use Rattle.mrc_names.proofs.Rows.{short}
 use Rattle.mrc_rules.specs.declared.Answer.{Answer}
 use Rattle.mrc_rules.specs.Decode.{decodeAt}
 use Rattle.mrc_line.specs.Text.{bytes, hex4, pairs, padded, shown, fieldWidth}
 use Rattle.mrc_line.specs.Target.{targetOf}
-use Rattle.mrc_line.specs.Names.{nameOf}
 use Rattle.mrc_line.specs.Operands.{registerText, segmentText, modeText, sizeText, displacementText, immediateText, memoryText, operandText, aloneText, besideText, operandsText}
 use Rattle.mrc_line.specs.Line.{headText, repeatText, instructionText, bodyText, stepTaken, stepText, lineText, longest, budget}
 use Rattle.mrc_line.proofs.Put.{pairs-length}
-
-name : (o : Operation) → length (nameOf o) ≤ 6
-name MOV = lit≤ tt
-name PUSH = lit≤ tt
-name POP = lit≤ tt
-name XCHG = lit≤ tt
-name IN = lit≤ tt
-name OUT = lit≤ tt
-name XLATB = lit≤ tt
-name LEA = lit≤ tt
-name LDS = lit≤ tt
-name LES = lit≤ tt
-name LAHF = lit≤ tt
-name SAHF = lit≤ tt
-name PUSHF = lit≤ tt
-name POPF = lit≤ tt
-name ADD = lit≤ tt
-name ADC = lit≤ tt
-name INC = lit≤ tt
-name AAA = lit≤ tt
-name DAA = lit≤ tt
-name SUB = lit≤ tt
-name SBB = lit≤ tt
-name DEC = lit≤ tt
-name NEG = lit≤ tt
-name CMP = lit≤ tt
-name AAS = lit≤ tt
-name DAS = lit≤ tt
-name MUL = lit≤ tt
-name IMUL = lit≤ tt
-name AAM = lit≤ tt
-name DIV = lit≤ tt
-name IDIV = lit≤ tt
-name AAD = lit≤ tt
-name CBW = lit≤ tt
-name CWD = lit≤ tt
-name NOT = lit≤ tt
-name SHL = lit≤ tt
-name SHR = lit≤ tt
-name SAR = lit≤ tt
-name ROL = lit≤ tt
-name ROR = lit≤ tt
-name RCL = lit≤ tt
-name RCR = lit≤ tt
-name AND = lit≤ tt
-name TEST = lit≤ tt
-name OR = lit≤ tt
-name XOR = lit≤ tt
-name MOVSB = lit≤ tt
-name MOVSW = lit≤ tt
-name CMPSB = lit≤ tt
-name CMPSW = lit≤ tt
-name SCASB = lit≤ tt
-name SCASW = lit≤ tt
-name LODSB = lit≤ tt
-name LODSW = lit≤ tt
-name STOSB = lit≤ tt
-name STOSW = lit≤ tt
-name CALL = lit≤ tt
-name JMP = lit≤ tt
-name RET = lit≤ tt
-name JE = lit≤ tt
-name JL = lit≤ tt
-name JLE = lit≤ tt
-name JB = lit≤ tt
-name JBE = lit≤ tt
-name JP = lit≤ tt
-name JO = lit≤ tt
-name JS = lit≤ tt
-name JNE = lit≤ tt
-name JNL = lit≤ tt
-name JNLE = lit≤ tt
-name JNB = lit≤ tt
-name JNBE = lit≤ tt
-name JNP = lit≤ tt
-name JNO = lit≤ tt
-name JNS = lit≤ tt
-name LOOP = lit≤ tt
-name LOOPZ = lit≤ tt
-name LOOPNZ = lit≤ tt
-name JCXZ = lit≤ tt
-name INT = lit≤ tt
-name INT1 = lit≤ tt
-name INT3 = lit≤ tt
-name INTO = lit≤ tt
-name IRET = lit≤ tt
-name CLC = lit≤ tt
-name CMC = lit≤ tt
-name STC = lit≤ tt
-name CLD = lit≤ tt
-name STD = lit≤ tt
-name CLI = lit≤ tt
-name STI = lit≤ tt
-name HLT = lit≤ tt
-name WAIT = lit≤ tt
-name ESC = lit≤ tt
-name LOCK = lit≤ tt
-name NOP = lit≤ tt
-name SALC = lit≤ tt
 
 register : (r : RegisterEncoding) (size : OperandSize) → length (registerText r size) ≡ 2
 register AlAx Byte = refl
@@ -219,7 +119,7 @@ body : (start b : ℕ) (a : Answer) → length (bodyText start b a) ≤ 55
 unfolding instructionText
 body start b (Answer.Decoded i n p) =
     let o = operandsText start n (i .operands) in
-    omega (arith, repeated (i .repeat), name (i .operation), operands start n (i .operands), length-append (repeatText (i .repeat)) (nameOf (i .operation) ++ o), length-append (nameOf (i .operation)) o)
+    omega (arith, repeated (i .repeat), short (i .operation), operands start n (i .operands), length-append (repeatText (i .repeat)) (nameOf (i .operation) ++ o), length-append (nameOf (i .operation)) o)
 body start b (Answer.Refused e n p) = lit≤ tt
 
 step : (s : List ℕ) (at : ℕ) (a : Answer) → length (stepText s at a) ≤ longest

@@ -1,6 +1,5 @@
 pub mod Text
 pub mod Target
 pub mod Operands
-pub mod Names
 pub mod Line
 pub mod Page

@@ -9,12 +9,12 @@ use Rattle.mrc_instruction.specs.declared.instruction.Repeat.{Repeat}
 use Rattle.mrc_instruction.specs.declared.instruction.Repeated.{Repeated}
 use Rattle.mrc_instruction.specs.declared.instruction.Instruction.{Instruction}
 use Rattle.mrc_instruction.specs.declared.errors.Refusal.{Refusal}
+use Rattle.mrc_names.specs.Names.{nameOf}
 use Rattle.mrc_rules.specs.declared.Answer.{Answer}
 use Rattle.mrc_rules.specs.Decode.{decodeAt}
 use Rattle.mrc_line.specs.declared.line.LineAnswer.{LineAnswer}
 use Rattle.mrc_line.specs.Target.{offsets}
 use Rattle.mrc_line.specs.Text.{bytes, hex2, hex4, pairs, padded, shown, fieldWidth}
-use Rattle.mrc_line.specs.Names.{nameOf}
 use Rattle.mrc_line.specs.Operands.{operandsText}
 
 -- "start offset, four upper-case hex digits; two spaces; the first seven bytes taken, each two digits and a space, padded to 21 characters;

@@ -1,17 +1,9 @@
 -- The pieces of a line as text, and what it is to put a piece into a buffer.
 use mathlib.Core.Path.{_≡_}
-use mathlib.Core.Bool.{cond}
 use mathlib.Core.List.{List, [], _∷_, _++_}
-use Prim.Native.Char.{code}
-use Prim.Native.String.{String, [] as ε, _∷_ as _◂_}
-use Prim.Native.Nat.{ℕ, _+_, _-_, _≤_, _/_, _%_}
-use lib.Dec.{eqb}
-use lib.ListN.{length, getD, take, drop, replicate}
-
--- the bytes of a text's characters
-abbrev pub bytes : String → List ℕ
-bytes ε = []
-bytes (c ◂ s) = code c ∷ bytes s
+use Prim.Native.Nat.{ℕ, _+_, _≤_, _/_, _%_}
+use lib.ListN.{length, getD, take, drop}
+pub use Rattle.mrc_names.specs.Text.{bytes, padded}
 
 -- "upper-case hex digits": the digit of a number below 16
 abbrev pub digitOf : ℕ → ℕ
@@ -35,15 +27,6 @@ shown = 7
 
 abbrev pub fieldWidth : ℕ
 fieldWidth = 21
-
--- "padded to" a number of characters
-abbrev pub padded : ℕ → List ℕ → List ℕ
-padded n t = t ++ replicate (n - length t) 32
-
--- "without the padding": what stands before the first space
-abbrev pub trimmed : List ℕ → List ℕ
-trimmed [] = []
-trimmed (x ∷ l) = cond (eqb x 32) [] (x ∷ trimmed l)
 
 -- A buffer that held s holds d: the text t, of at most n bytes, stands from `at` on and up to r, and all else is as it was.
 pub record Put (n : ℕ) (s : List ℕ) (at : ℕ) (t : List ℕ) (d : List ℕ) (r : ℕ) : Type 0 where

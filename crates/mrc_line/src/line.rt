@@ -1,7 +1,7 @@
 // The line call.
-use crate::names::table;
 use crate::write::write_line;
 use mrc_instruction::errors::Refusal;
+use mrc_names::names::table;
 ghost use Rattle.mrc_line.specs.Line.{Listed};
 
 // The line's length and the bytes that it accounts for, or why there is no line.

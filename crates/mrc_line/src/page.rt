@@ -1,8 +1,8 @@
 // A page: as many whole lines as fit into a buffer.
 use crate::line::LineAnswer;
 use crate::line::OFFSETS;
-use crate::names::table;
 use crate::write::write_line;
+use mrc_names::names::table;
 ghost use Rattle.mrc_line.specs.Page.{Paged};
 
 // How many bytes were written, and the place at which the next line starts.

@@ -5,11 +5,10 @@ use crate::text::put_bytes;
 use mrc_decoder::decode::decode_instruction;
 use mrc_instruction::errors::Refusal;
 ghost use mathlib.Core.Path.{_≡_};
-ghost use mathlib.Core.List.{map};
 ghost use Prim.Native.Nat.{_<_, _≤_};
 ghost use lib.ListN.{length};
+ghost use Rattle.mrc_names.specs.Names.{nameTable};
 ghost use Rattle.mrc_line.specs.Target.{offsets};
-ghost use Rattle.mrc_line.specs.Names.{rowOf, operations};
 ghost use Rattle.mrc_line.specs.Line.{Listed};
 
 // The prefix bytes that a line may have, and the room that any line fits into.
@@ -19,7 +18,7 @@ const LONGEST: usize = 85;
 
 // Where `out` may be too short, the line is made in a buffer of the function's own first.
 pub fn write_line(out: &mut [u8], names: &[[u8; 6]; 97], image: &[u8], at: usize) -> LineAnswer
-    requires { ⌜ (now names ≡ map rowOf operations) × (length (now image) ≤ offsets) × (at < length (now image)) ⌝ }
+    requires { ⌜ (now names ≡ nameTable) × (length (now image) ≤ offsets) × (at < length (now image)) ⌝ }
     ensures { λ r. ⌜ Listed (now (image .entry)) at (now (out .entry)) r (now (out .exit)) ⌝ }
 {
     let answer = decode_instruction(image, at, BUDGET);

@@ -1,12 +1,9 @@
 -- The row at the operation's place is the name, padded; as many letters are put as stand before the padding.
 -- Assumes nothing.
-use mathlib.Core.Path.{ap, _∙_}
-use mathlib.Core.List.{List, []}
-use Prim.Native.Nat.{ℕ}
-use lib.ListN.{getD}
-use Rattle.mrc_line.specs.Text.{trimmed}
+use native.Mathlib.Omega.{arith}
+use Rattle.mrc_names.proofs.Placed.{within}
+use Rattle.mrc_names.proofs.Rows.{at-most-six, printed}
 use Rattle.mrc_line.proofs.Put.{same}
-use Rattle.mrc_line.proofs.Rows.{named}
 use borrow.Author.Needs.{needs}
 use Rattle.mrc_line.proofs.names.put_name.Statement.{statement}
 use Rattle.mrc_line.proofs.names.put_name.Tie as tie
@@ -14,32 +11,37 @@ use Rattle.mrc_line.proofs.names.put_name.Tie as tie
 place-requires : tie.Need-place-requires
 place-requires c κs = search needs
 
+cast-i : tie.Need-cast-i
+cast-i c = search needs
+
 mul-row : tie.Need-mul-row
 mul-row c = search needs
 
 element-copy-out-row : tie.Need-element-copy-out-row
-element-copy-out-row c = search needs
+element-copy-out-row c = omega (arith, within (c .before .before .args .operation))
 
 letters-requires : tie.Need-letters-requires
 letters-requires c κs = search needs
 
 put-letters-requires : tie.Need-put-letters-requires
-put-letters-requires c κs = search needs
+put-letters-requires c κs =
+    let a = c .before .before .before .before .before in
+    (search needs, at-most-six (a .args .operation) (a .pre .1) (c .before .before .before .place .ensures) (c .before .letters .ensures))
 
 same-length : tie.Need-same-length
 same-length c = search needs
 
 returns : tie.Need-returns
 returns c =
-    let i = c .before .before .before .before .before .before .place .result in
-    same (c .before .before .before .before .letters .ensures .1 ∙ ap (λ (l : List (List ℕ)). trimmed (getD l i [])) (c .before .before .before .before .before .before .before .before .pre .1) ∙ named i (c .before .before .before .before .before .before .place .ensures .0) (c .before .before .before .before .before .before .before .before .args .operation) (c .before .before .before .before .before .before .place .ensures .1))
-    (c .before .before .put-letters .ensures)
+    let a = c .before .before .before .before .before .before .before .before in
+    same (printed (a .args .operation) (a .pre .1) (c .before .before .before .before .before .before .place .ensures) (c .before .before .before .before .letters .ensures)) (c .before .before .put-letters .ensures)
 
 pub put-name-spec : {M : Type 1} → statement M
 put-name-spec =
     tie.close
     (tie.spec
     place-requires
+    cast-i
     mul-row
     element-copy-out-row
     letters-requires
