@@ -10,8 +10,8 @@ use Rattle.mrc_instruction.specs.declared.operand.Immediate.{Immediate}
 use Rattle.mrc_instruction.specs.declared.operand.Operand.{Operand}
 use Rattle.mrc_instruction.specs.declared.instruction.OperandSet.{OperandSet}
 use Rattle.mrc_instruction.specs.Errors.{numberOf, byteOf}
+use Rattle.mrc_names.specs.Places.{placeOf}
 use Rattle.mrc_rules.specs.declared.Answer.{Answer}
-use Rattle.mrc_decoder.specs.Codes.{placeOf}
 use Rattle.mrc_line.specs.Target.{targetOf}
 use Rattle.mrc_c.specs.declared.operands.Fields.{Fields}
 use Rattle.mrc_c.specs.Codes.{sizeCode, segmentCode, registerCode, addressingCode, repeatCode}

@@ -5,7 +5,6 @@ pub mod fields;
 pub mod line;
 pub mod modrm;
 mod operands;
-mod places;
 pub mod record;
 pub mod sizes;
 pub mod step;

@@ -3,12 +3,11 @@ use crate::codes::repeat_code;
 use crate::operands::Fields;
 use crate::operands::operand_fields;
 use crate::operands::six;
-use crate::places::place;
 use mrc_instruction::instruction::Instruction;
 use mrc_instruction::instruction::OperandSet;
+use mrc_names::places::place;
 use mrc_rules::Answer;
 ghost use mathlib.Core.Path.{_≡_};
-ghost use Rattle.mrc_decoder.specs.Codes.{placeOf};
 ghost use Rattle.mrc_c.specs.Codes.{repeatCode};
 ghost use Rattle.mrc_c.specs.Record.{recordOf, laidOut, destinationOf, sourceOf};
 
