@@ -1,11 +1,12 @@
--- The length rule: a success takes one to six bytes after its prefixes. Each form asks for at most five bytes after the opcode.
+-- The length rule: an answer takes at most six bytes after its prefixes, and a success at least one. Each form asks for at most five bytes
+-- after the opcode.
 -- Assumes nothing.
 use mathlib.Core.Path.{_≡_, refl, sym, subst}
 use mathlib.Core.Bool.{Bool, true, false, cond}
 use mathlib.Core.List.{List, [], _∷_, _++_}
 use Prim.Native.Nat.{ℕ, zero, suc, _+_, _/_, _%_, _≤_}
 use native.Mathlib.Omega.{arith}
-use lib.ListN.{length, drop}
+use lib.ListN.{length, drop, getD}
 use lib.Dec.{eqb, ltb, leb}
 use Rattle.mrc_instruction.specs.declared.operand.OperandSize.the-variants.{Byte, Word}
 use Rattle.mrc_instruction.specs.declared.operand.OperandSize.{OperandSize}
@@ -101,12 +102,28 @@ rest-within opcode (incDec size) = modrm-then _ (λ m. tt)
 
 -- one to six bytes, under any rules by which at most five follow an opcode
 module _ (R : Rules) (short : (opcode : ℕ) → Within 5 (R .follow opcode)) where
+  -- an opcode and what follows it, read or refused
+  tail-short : (l : List ℕ) → takenBy (tail R l) ≤ 6
+  tail-short [] = omega arith
+  tail-short (op ∷ l) = omega (arith, taken-more (readFrom (R .follow op) l), within-taken 5 (R .follow op) l (short op))
+
   tail-length : (l : List ℕ) → Got (tail R l) → (1 ≤ takenBy (tail R l)) × (takenBy (tail R l) ≤ 6)
   tail-length [] h = absurd h
-  tail-length (op ∷ l) h =
-      let o = readFrom (R .follow op) l in
-      let le = within-taken 5 (R .follow op) l (short op) in
-      (omega (arith, taken-more o), omega (arith, taken-more o, le))
+  tail-length (op ∷ l) h = (omega (arith, taken-more (readFrom (R .follow op) l)), tail-short (op ∷ l))
+
+  six-by : (b : ℕ) (l : List ℕ) → taken (decodeBy R b l) ≤ prefixes (decodeBy R b l) + 6
+  six-by b l = go (leb (length (runOf l)) b)
+    where
+      go : (t : Bool)
+          → let d = cond t (together R (runOf l) (tail R (tailOf l))) (Answer.Refused (Refusal.TooManyPrefixes (getD (runOf l) b 0)) (b + 1) (b + 1)) in
+          taken d ≤ prefixes d + 6
+      go true =
+          let t = tail R (tailOf l) in
+          omega (arith, tail-short (tailOf l), taken-together R (runOf l) t, prefixes-together R (runOf l) t)
+      go false = omega arith
+
+  pub at-most-six-by : (s : List ℕ) (at b : ℕ) → taken (decodeAtBy R s at b) ≤ prefixes (decodeAtBy R s at b) + 6
+  at-most-six-by s at b = at-position R (λ d. taken d ≤ prefixes d + 6) s at b (six-by b) (omega arith)
 
   pub length-by : (b : ℕ) (l : List ℕ) → Success (decodeBy R b l)
       → (prefixes (decodeBy R b l) + 1 ≤ taken (decodeBy R b l)) × (taken (decodeBy R b l) ≤ prefixes (decodeBy R b l) + 6)
@@ -126,3 +143,6 @@ module _ (R : Rules) (short : (opcode : ℕ) → Within 5 (R .follow opcode)) wh
 -- under the rules of this paper
 pub length-rule : (s : List ℕ) (at b : ℕ) (i : Instruction) (n p : ℕ) → decodeAt s at b ≡ Answer.Decoded i n p → (p + 1 ≤ n) × (n ≤ p + 6)
 length-rule = length-rule-by rules (λ opcode. rest-within opcode (rowOf opcode))
+
+pub at-most-six : (s : List ℕ) (at b : ℕ) → taken (decodeAt s at b) ≤ prefixes (decodeAt s at b) + 6
+at-most-six = at-most-six-by rules (λ opcode. rest-within opcode (rowOf opcode))

@@ -14,10 +14,6 @@ module _ {A : Type 0} where
   Got (got a n) = Unit {0}
   Got (stopped e n) = ⊥
 
-  pub got-more : (o : Outcome A) → Got (more o) → Got o
-  got-more (got a n) h = tt
-  got-more (stopped e n) h = h
-
   -- it asks for at most n bytes
   abbrev pub Within : ℕ → Reading A → Type 0
   Within n (done a) = Unit {0}
