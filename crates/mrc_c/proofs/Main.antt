@@ -2,7 +2,7 @@
 -- Assumes nothing.
 use mathlib.Core.Path.{_≡_, refl}
 use mathlib.Core.List.{List}
-use Prim.Native.Nat.{ℕ}
+use Prim.Native.Nat.{ℕ, _<_}
 use lib.ListN.{length}
 use Rattle.mrc_instruction.specs.Promise.{ExactlyOne}
 use Rattle.mrc_instruction.specs.Register.{registerField, segmentField}
@@ -13,6 +13,7 @@ use Rattle.mrc_instruction.specs.Read.{mrrmRead}
 use Rattle.mrc_instruction.specs.declared.mrrm.MrrmRead.{MrrmRead}
 use Rattle.mrc_instruction.proofs.Unique.{exactly-one}
 use Rattle.mrc_rules.specs.declared.Answer.{Answer}
+use Rattle.mrc_rules.specs.Answer.{taken, prefixes}
 use Rattle.mrc_rules.specs.Decode.{decodeAt}
 use Rattle.mrc_c.specs.Record.{recordOf}
 use Rattle.mrc_c.specs.Fields.{registerNumber, segmentNumber, addressingNumber}
@@ -22,6 +23,7 @@ use Rattle.mrc_c.specs.Step.{stepCode}
 use Rattle.mrc_c.specs.Written.{Written}
 use Rattle.mrc_c.specs.Line.{LineWritten}
 use Rattle.mrc_c.proofs.Settled as settled
+use Rattle.mrc_c.proofs.Counts as counts
 
 pub decode : (s : List ℕ) (at budget : ℕ) (out : List ℕ) → ExactlyOne {A = ℕ × List ℕ} (λ p. Written (recordOf (decodeAt s at budget)) out (p .0) (p .1))
 decode s at budget out = settled.written-settled (recordOf (decodeAt s at budget)) out
@@ -46,6 +48,10 @@ fields n = (exactly-one (registerNumber (registerField n)), exactly-one (segment
 
 pub operand-size : (kind size : ℕ) → ExactlyOne (λ (r : ℕ). r ≡ sizedCode (sizeOf (sampleOf kind (sizeBy size))))
 operand-size kind size = exactly-one (sizedCode (sizeOf (sampleOf kind (sizeBy size))))
+
+-- the two bytes that a record has for a count, and a count's place in a step's number, hold all of it
+pub counts-whole : (s : List ℕ) (at budget : ℕ) → budget < 256 → (taken (decodeAt s at budget) < 65536) × (prefixes (decodeAt s at budget) < 65536)
+counts-whole s at budget h = (counts.taken-small s at budget h, counts.prefixes-small s at budget h)
 
 -- a record of a decode has 20 bytes, and one of a ModRM 10
 pub decode-length : (d : Answer) → length (recordOf d) ≡ 20

@@ -1,8 +1,8 @@
--- The counts of a decode as a number. No decode takes 65,536 bytes: the prefixes are at most 256, and six bytes follow them.
-use Prim.Native.Nat.{ℕ, _+_, _*_, _%_}
+-- The counts of a decode and its refusal's number, 0 for an instruction, as one number. Each count is below 65,536: the prefixes are at most 256,
+-- and at most six bytes follow them.
+use Prim.Native.Nat.{ℕ, _+_, _*_}
 use Rattle.mrc_rules.specs.declared.Answer.{Answer}
-use Rattle.mrc_instruction.specs.Errors.{numberOf}
+use Rattle.mrc_rules.specs.Answer.{number, taken, prefixes}
 
 abbrev pub stepCode : Answer → ℕ
-stepCode (Answer.Decoded i n p) = n % 65536 + 65536 * (p % 65536)
-stepCode (Answer.Refused e n p) = n % 65536 + 65536 * (p % 65536) + 4294967296 * numberOf e
+stepCode d = taken d + 65536 * prefixes d + 4294967296 * number d

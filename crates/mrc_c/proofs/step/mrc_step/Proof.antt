@@ -1,7 +1,8 @@
--- Each arm knows the answer that it is given, and `number` its refusal's number.
+-- Each arm knows the answer that it is given, and `number` its refusal's number; nothing of the counts is lost.
 -- Assumes nothing.
-use mathlib.Core.Path.{sym, ap, _∙_}
-use Rattle.mrc_c.specs.Step.{stepCode}
+use mathlib.Core.Path.{sym, _∙_}
+use native.Mathlib.Omega.{arith}
+use Rattle.mrc_c.proofs.Counts.{step-whole}
 use borrow.Author.Needs.{needs}
 use Rattle.mrc_c.proofs.step.mrc_step.Statement.{statement}
 use Rattle.mrc_c.proofs.step.mrc_step.Tie as tie
@@ -40,10 +41,15 @@ add-result-3 : tie.Need-add-result-3
 add-result-3 c = search needs
 
 returns : tie.Need-returns
-returns c = ap stepCode (sym (c .before .taken .given .1) ∙ c .before .before .before .decode-instruction .ensures)
+returns c =
+    let a = c .before .before .before .before .before in
+    omega (arith, step-whole (a .args .s .now) (a .args .at) (a .args .budget) (search needs) _ (sym (c .before .taken .given .1) ∙ c .before .before .before .decode-instruction .ensures))
 
 returns-2 : tie.Need-returns-2
-returns-2 c = rw (c .number .ensures) (ap stepCode (sym (c .before .before .refusal .given .1) ∙ c .before .before .before .before .decode-instruction .ensures))
+returns-2 c =
+    let a = c .before .before .before .before .before .before in
+    rw (c .number .ensures)
+    (step-whole (a .args .s .now) (a .args .at) (a .args .budget) (search needs) _ (sym (c .before .before .refusal .given .1) ∙ c .before .before .before .before .decode-instruction .ensures))
 
 pub mrc-step-spec : {M : Type 1} → statement M
 mrc-step-spec =
