@@ -4,15 +4,17 @@ use Prim.Native.Nat.{ℕ}
 use mathlib.Core.Path.{_≡_}
 use mathlib.Core.List.{List}
 use Rattle.mrc_instruction.specs.declared.operand.OperandSize.{OperandSize}
-use Rattle.mrc_instruction.specs.Reading.{readFrom}
+use Rattle.mrc_instruction.specs.declared.operation.Operation.{Operation}
+use Rattle.mrc_instruction.specs.Reading.{Outcome, readFrom}
 use Rattle.mrc_instruction.specs.Promise.{ExactlyOne}
 use Rattle.mrc_instruction.proofs.Unique.{exactly-one}
 use Rattle.mrc_rules.specs.declared.Answer.{Answer}
-use Rattle.mrc_rules.specs.Forms.{Row, anImmediate, aDisplacement}
+use Rattle.mrc_rules.specs.Forms.{Tail, Row, anImmediate, aDisplacement, arithmetic, shift, incOrDec, unaryOperation}
 use Rattle.mrc_forms.specs.declared.traits.ImmediateRead.{ImmediateRead}
 use Rattle.mrc_forms.specs.declared.traits.DisplacementRead.{DisplacementRead}
-use Rattle.mrc_forms.specs.Behind.{readBy}
-use Rattle.mrc_forms.specs.Traits.{immediateRead, displacementRead}
+use Rattle.mrc_forms.specs.Behind.{alone, readBy}
+use Rattle.mrc_forms.specs.Groups.{jumpOf, immediateOperation}
+use Rattle.mrc_forms.specs.Traits.{sizeBy, immediateRead, displacementRead}
 
 -- a form's function, whatever the row, the opcode and the bytes behind it
 pub form-settled : (opcode : ℕ) (row : Row) (l : List ℕ) → ExactlyOne (λ (r : Answer). r ≡ readBy opcode row l)
@@ -25,3 +27,18 @@ immediate-settled size l = exactly-one (immediateRead (readFrom (anImmediate siz
 pub displacement-settled : (size : OperandSize) (l : List ℕ)
     → ExactlyOne (λ (r : DisplacementRead). r ≡ displacementRead (readFrom (aDisplacement size) l))
 displacement-settled size l = exactly-one (displacementRead (readFrom (aDisplacement size) l))
+
+-- an answer with no prefix, the size that a bit names, and the operation of each group
+pub answer-settled : (o : Outcome Tail) → ExactlyOne (λ (r : Answer). r ≡ alone o)
+answer-settled o = exactly-one (alone o)
+
+pub size-settled : (opcode : ℕ) → ExactlyOne (λ (r : OperandSize). r ≡ sizeBy opcode)
+size-settled opcode = exactly-one (sizeBy opcode)
+
+abbrev Settled : Operation → Type 0
+Settled op = ExactlyOne (λ (r : Operation). r ≡ op)
+
+pub groups-settled : (group n : ℕ)
+    → Settled (arithmetic n) × Settled (immediateOperation group n) × Settled (shift n) × Settled (unaryOperation n) × Settled (incOrDec n) × Settled (jumpOf n)
+groups-settled group n =
+    (exactly-one (arithmetic n), exactly-one (immediateOperation group n), exactly-one (shift n), exactly-one (unaryOperation n), exactly-one (incOrDec n), exactly-one (jumpOf n))

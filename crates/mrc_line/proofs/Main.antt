@@ -6,11 +6,13 @@ use Prim.Native.Nat.{ℕ, _<_, _≤_}
 use native.Mathlib.Nat.{le-trans}
 use lib.ListN.{length}
 use Rattle.mrc_instruction.specs.declared.errors.Refusal.{Refusal}
+use Rattle.mrc_instruction.specs.declared.operand.Displacement.{Displacement}
 use Rattle.mrc_instruction.specs.Promise.{ExactlyOne}
+use Rattle.mrc_instruction.proofs.Unique.{exactly-one}
 use Rattle.mrc_line.specs.declared.line.LineAnswer.{LineAnswer}
 use Rattle.mrc_line.specs.declared.page.Page.{Page}
 use Rattle.mrc_line.specs.Text.{bytes}
-use Rattle.mrc_line.specs.Target.{offsets}
+use Rattle.mrc_line.specs.Target.{offsets, targetOf}
 use Rattle.mrc_line.specs.Line.{lineText, lineEnd, longest, Listed}
 use Rattle.mrc_line.specs.Page.{linesOf, textOf, bytesOf, takenOf, pagesFrom, Paged}
 use Rattle.mrc_line.proofs.Settled as Settled
@@ -25,6 +27,9 @@ line-settled = Settled.line-settled
 
 pub page-settled : (image : List ℕ) (at : ℕ) (out : List ℕ) → ExactlyOne {A = Page × List ℕ} (λ p. Paged image at out (p .0) (p .1))
 page-settled = Settled.page-settled
+
+pub target-settled : (start taken : ℕ) (d : Displacement) → ExactlyOne (λ (r : ℕ). r ≡ targetOf start taken d)
+target-settled start taken d = exactly-one (targetOf start taken d)
 
 -- "a refused line call changes no byte of its buffer"
 pub refused-unchanged : (image : List ℕ) (at : ℕ) (out : List ℕ) (e : Refusal) (done : List ℕ) → Listed image at out (LineAnswer.Refused e) done → done ≡ out
