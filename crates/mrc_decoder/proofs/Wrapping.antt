@@ -88,8 +88,8 @@ rest-plain opcode (incDec size) = modrm-then _ (λ m. tt)
 
 -- the outer segment wins
 in-segment-again : (g later : Segment) (d : Operand) → inSegment g (inSegment later d) ≡ inSegment g d
-in-segment-again g later (Operand.Direct s w size) = refl
-in-segment-again g later (Operand.Indirect s a n size) = refl
+in-segment-again g later (Operand.Direct s size w) = refl
+in-segment-again g later (Operand.Indirect s size a n) = refl
 in-segment-again g later (Operand.Register r) = refl
 in-segment-again g later (Operand.Segment r) = refl
 in-segment-again g later (Operand.Immediate i) = refl

@@ -18,9 +18,9 @@ pub fn override_segment(operand: Operand, segment: Segment) -> Operand
     ensures { λ r. ⌜ r ≡ inSegment segment operand ⌝ }
 {
     match operand {
-        Operand::Direct(_, offset, size) => Operand::Direct(segment, offset, size),
-        Operand::Indirect(_, mode, displacement, size) => {
-            Operand::Indirect(segment, mode, displacement, size)
+        Operand::Direct(_, size, offset) => Operand::Direct(segment, size, offset),
+        Operand::Indirect(_, size, mode, displacement) => {
+            Operand::Indirect(segment, size, mode, displacement)
         }
         Operand::Register(register) => Operand::Register(register),
         Operand::Segment(named) => Operand::Segment(named),
@@ -76,9 +76,9 @@ pub fn under_override(prefix: u8, inner: Answer) -> Answer
                     let operands = OperandSet::Destination(override_segment(destination, segment));
                     Answer::Decoded {
                         instruction: Instruction {
+                            repeat,
                             operation,
                             operands,
-                            repeat,
                         },
                         taken: taken + 1,
                         prefixes: prefixes + 1,
@@ -91,9 +91,9 @@ pub fn under_override(prefix: u8, inner: Answer) -> Answer
                     );
                     Answer::Decoded {
                         instruction: Instruction {
+                            repeat,
                             operation,
                             operands,
-                            repeat,
                         },
                         taken: taken + 1,
                         prefixes: prefixes + 1,
@@ -140,9 +140,9 @@ pub fn with_repeat(prefix: u8, inner: Answer) -> Answer
             let operands = instruction.operands;
             Answer::Decoded {
                 instruction: Instruction {
+                    repeat,
                     operation,
                     operands,
-                    repeat,
                 },
                 taken: taken + 1,
                 prefixes: prefixes + 1,

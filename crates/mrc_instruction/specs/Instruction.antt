@@ -5,4 +5,4 @@ use Rattle.mrc_instruction.specs.declared.instruction.Repeated.{Repeated
 use Rattle.mrc_instruction.specs.declared.instruction.Instruction.{Instruction}
 
 abbrev pub plain : Operation → OperandSet → Instruction
-plain operation operands = record { operation = operation; operands = operands; repeat = Repeated.None }
+plain operation operands = record { repeat = Repeated.None; operation = operation; operands = operands }

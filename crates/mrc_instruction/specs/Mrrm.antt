@@ -49,8 +49,8 @@ orNone written (negsuc n) = written (negsuc n)
 
 -- the operand of a size: "The segment is DS always, BP included."
 abbrev pub operandOf : OperandSize → RegisterOrMemory → Operand
-operandOf size (RegisterOrMemory.Direct w) = Operand.Direct Segment.DS w size
-operandOf size (RegisterOrMemory.Indirect mode) = Operand.Indirect Segment.DS mode Displacement.None size
-operandOf size (RegisterOrMemory.DisplacementByte mode d) = Operand.Indirect Segment.DS mode (orNone Displacement.Byte d) size
-operandOf size (RegisterOrMemory.DisplacementWord mode d) = Operand.Indirect Segment.DS mode (orNone Displacement.Word d) size
+operandOf size (RegisterOrMemory.Direct w) = Operand.Direct Segment.DS size w
+operandOf size (RegisterOrMemory.Indirect mode) = Operand.Indirect Segment.DS size mode Displacement.None
+operandOf size (RegisterOrMemory.DisplacementByte mode d) = Operand.Indirect Segment.DS size mode (orNone Displacement.Byte d)
+operandOf size (RegisterOrMemory.DisplacementWord mode d) = Operand.Indirect Segment.DS size mode (orNone Displacement.Word d)
 operandOf size (RegisterOrMemory.Register r) = Operand.Register (record { 0 = r; 1 = size })

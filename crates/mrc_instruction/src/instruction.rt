@@ -23,9 +23,9 @@ pub enum Repeated {
 }
 
 pub struct Instruction {
+    pub repeat: Repeated,
     pub operation: Operation,
     pub operands: OperandSet,
-    pub repeat: Repeated,
 }
 
 impl Instruction {
@@ -34,9 +34,9 @@ impl Instruction {
         ensures { λ r. ⌜ r ≡ plain operation operands ⌝ }
     {
         Self {
+            repeat: Repeated::None,
             operation,
             operands,
-            repeat: Repeated::None,
         }
     }
 }

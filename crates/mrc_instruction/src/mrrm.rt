@@ -66,15 +66,15 @@ impl RegisterOrMemory {
         ensures { λ r. ⌜ r ≡ operandOf size self ⌝ }
     {
         match self {
-            RegisterOrMemory::Direct(offset) => Operand::Direct(Segment::DS, offset, size),
+            RegisterOrMemory::Direct(offset) => Operand::Direct(Segment::DS, size, offset),
             RegisterOrMemory::Indirect(mode) => {
-                Operand::Indirect(Segment::DS, mode, Displacement::None, size)
+                Operand::Indirect(Segment::DS, size, mode, Displacement::None)
             }
             RegisterOrMemory::DisplacementByte(mode, displacement) => {
-                Operand::Indirect(Segment::DS, mode, byte_or_none(displacement), size)
+                Operand::Indirect(Segment::DS, size, mode, byte_or_none(displacement))
             }
             RegisterOrMemory::DisplacementWord(mode, displacement) => {
-                Operand::Indirect(Segment::DS, mode, word_or_none(displacement), size)
+                Operand::Indirect(Segment::DS, size, mode, word_or_none(displacement))
             }
             RegisterOrMemory::Register(register) => {
                 Operand::Register(SizedRegisterEncoding(register, size))

@@ -70,8 +70,8 @@ pub enum Immediate {
 }
 
 pub enum Operand {
-    Direct(Segment, u16, OperandSize),
-    Indirect(Segment, AddressingMode, Displacement, OperandSize),
+    Direct(Segment, OperandSize, u16),
+    Indirect(Segment, OperandSize, AddressingMode, Displacement),
     Register(SizedRegisterEncoding),
     Segment(Segment),
     Immediate(Immediate),
@@ -91,8 +91,8 @@ impl Operand {
         ensures { λ r. ⌜ r ≡ sizeOf self ⌝ }
     {
         match self {
-            Operand::Direct(_, _, size) => Sized::Size(size),
-            Operand::Indirect(_, _, _, size) => Sized::Size(size),
+            Operand::Direct(_, size, _) => Sized::Size(size),
+            Operand::Indirect(_, size, _, _) => Sized::Size(size),
             Operand::Register(register) => {
                 let size = register.1;
                 Sized::Size(size)

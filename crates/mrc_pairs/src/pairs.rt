@@ -147,7 +147,7 @@ pub fn accumulator_and_direct(opcode: u8, s: &[u8], at: usize) -> Answer
     match read_u16(s, at) {
         WordRead::Got(address, n) => {
             let reg = Operand::Register(SizedRegisterEncoding(RegisterEncoding::AlAx, size));
-            let direct = Operand::Direct(Segment::DS, address, size);
+            let direct = Operand::Direct(Segment::DS, size, address);
             if opcode / 2 % 2 == 1 {
                 return decoded(
                     Operation::MOV,

@@ -141,8 +141,8 @@ rest opcode (far op) = do
   offset ← aWord
   segment ← aWord
   done (one op (Operand.SegmentAndOffset (record { segment = segment; offset = offset })))
-rest opcode (accDirect size) = aWord >>= λ w. done (two MOV (acc size) (Operand.Direct Segment.DS w size))
-rest opcode (directAcc size) = aWord >>= λ w. done (two MOV (Operand.Direct Segment.DS w size) (acc size))
+rest opcode (accDirect size) = aWord >>= λ w. done (two MOV (acc size) (Operand.Direct Segment.DS size w))
+rest opcode (directAcc size) = aWord >>= λ w. done (two MOV (Operand.Direct Segment.DS size w) (acc size))
 rest opcode (registerImmediate r size) = anImmediate size >>= λ i. done (two MOV (register r size) (Operand.Immediate i))
 rest opcode (shiftImmediate size) = do
   m ← aModRM

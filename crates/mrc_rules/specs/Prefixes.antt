@@ -48,8 +48,8 @@ first kind (b ∷ l) = cond (kind b) (some b) (first kind l)
 
 -- "An override replaces the segment of each Direct and Indirect operand. Other operands stay."
 abbrev pub inSegment : Segment → Operand → Operand
-inSegment s (Operand.Direct was offset size) = Operand.Direct s offset size
-inSegment s (Operand.Indirect was mode displacement size) = Operand.Indirect s mode displacement size
+inSegment s (Operand.Direct was size offset) = Operand.Direct s size offset
+inSegment s (Operand.Indirect was size mode displacement) = Operand.Indirect s size mode displacement
 inSegment s (Operand.Register r) = Operand.Register r
 inSegment s (Operand.Segment r) = Operand.Segment r
 inSegment s (Operand.Immediate i) = Operand.Immediate i
@@ -63,7 +63,7 @@ pub data Result : Type 0 where
 
 -- the tail's instruction with a repeat and operands
 abbrev pub made : Tail → Repeated → OperandSet → Instruction
-made i repeat operands = record { operation = i .operation; operands = operands; repeat = repeat }
+made i repeat operands = record { repeat = repeat; operation = i .operation; operands = operands }
 
 -- the tail's instruction, which has these operands, under the override o: "the answer is 9 with the first override if the tail .. has no operands"
 abbrev pub under : ℕ → Repeated → Tail → OperandSet → Result
