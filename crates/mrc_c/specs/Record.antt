@@ -47,8 +47,8 @@ displacementFields (Displacement.Word d) = fieldsOf 11 0 0 0 (targetOf 0 0 (Disp
 
 -- a segment-and-offset has its segment in the second and third byte
 abbrev pub operandFields : Operand → Fields
-operandFields (Operand.Direct s w size) = fieldsOf 1 (segmentCode s) 0 (sizeCode size) w
-operandFields (Operand.Indirect s m d size) = indirectFields s m d size
+operandFields (Operand.Direct s size w) = fieldsOf 1 (segmentCode s) 0 (sizeCode size) w
+operandFields (Operand.Indirect s size m d) = indirectFields s m d size
 operandFields (Operand.Register r) = fieldsOf 5 (registerCode (r .0)) 0 (sizeCode (r .1)) 0
 operandFields (Operand.Segment s) = fieldsOf 6 (segmentCode s) 0 0 0
 operandFields (Operand.Immediate i) = immediateFields i

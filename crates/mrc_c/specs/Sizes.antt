@@ -23,10 +23,10 @@ far = Operand.SegmentAndOffset (record { segment = 0; offset = 0 })
 abbrev pub samples : OperandSize → List Operand
 samples size =
     far
-    ∷ Operand.Direct Segment.DS 0 size
-    ∷ Operand.Indirect Segment.DS AddressingMode.BxSi Displacement.None size
-    ∷ Operand.Indirect Segment.DS AddressingMode.BxSi (Displacement.Byte (pos 0)) size
-    ∷ Operand.Indirect Segment.DS AddressingMode.BxSi (Displacement.Word (pos 0)) size
+    ∷ Operand.Direct Segment.DS size 0
+    ∷ Operand.Indirect Segment.DS size AddressingMode.BxSi Displacement.None
+    ∷ Operand.Indirect Segment.DS size AddressingMode.BxSi (Displacement.Byte (pos 0))
+    ∷ Operand.Indirect Segment.DS size AddressingMode.BxSi (Displacement.Word (pos 0))
     ∷ Operand.Register (record { 0 = RegisterEncoding.AlAx; 1 = size })
     ∷ Operand.Segment Segment.DS
     ∷ Operand.Immediate (Immediate.Byte 0)

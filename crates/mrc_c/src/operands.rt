@@ -79,10 +79,10 @@ pub fn operand_fields(operand: Operand) -> Fields
     ensures { λ r. ⌜ r ≡ operandFields operand ⌝ }
 {
     match operand {
-        Operand::Direct(segment, offset, size) => {
+        Operand::Direct(segment, size, offset) => {
             six(1, segment_code(segment), 0, size_code(size), offset)
         }
-        Operand::Indirect(segment, mode, displacement, size) => {
+        Operand::Indirect(segment, size, mode, displacement) => {
             indirect_fields(segment, mode, displacement, size)
         }
         Operand::Register(register) => {

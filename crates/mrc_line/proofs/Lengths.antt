@@ -84,8 +84,8 @@ memory z s address h =
 
 -- an operand, where what a displacement prints as is short enough
 operand : (f : Displacement → List ℕ) → ((d : Displacement) → length (f d) ≤ 20) → (o : Operand) → length (operandText f o) ≤ 20
-operand f h (Operand.Direct s offset z) = memory z s (hex4 offset) (lit≤ tt)
-operand f h (Operand.Indirect s m d z) =
+operand f h (Operand.Direct s z offset) = memory z s (hex4 offset) (lit≤ tt)
+operand f h (Operand.Indirect s z m d) =
     memory z s (modeText m ++ displacementText d) (omega (arith, mode m, displacement d, length-append (modeText m) (displacementText d)))
 operand f h (Operand.Register r) = omega (arith, register (r .0) (r .1))
 operand f h (Operand.Segment s) = omega (arith, segment s)

@@ -78,8 +78,8 @@ memoryText size segment address = sizeText size ++ (segmentText segment ++ (byte
 
 -- an operand, by what a displacement prints as
 abbrev pub operandText : (Displacement → List ℕ) → Operand → List ℕ
-operandText asDisplacement (Operand.Direct segment offset size) = memoryText size segment (hex4 offset)
-operandText asDisplacement (Operand.Indirect segment mode displacement size) =
+operandText asDisplacement (Operand.Direct segment size offset) = memoryText size segment (hex4 offset)
+operandText asDisplacement (Operand.Indirect segment size mode displacement) =
     memoryText size segment (modeText mode ++ displacementText displacement)
 operandText asDisplacement (Operand.Register register) = registerText (register .0) (register .1)
 operandText asDisplacement (Operand.Segment segment) = segmentText segment

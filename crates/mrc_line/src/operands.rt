@@ -59,8 +59,8 @@ fn put_operand(buf: &mut [u8], at: usize, operand: Operand) -> usize
     ensures { λ r. ⌜ Put 20 (now (buf .entry)) at (operandText besideText operand) (now (buf .exit)) r ⌝ }
 {
     match operand {
-        Operand::Direct(segment, offset, size) => put_direct(buf, at, segment, offset, size),
-        Operand::Indirect(segment, mode, displacement, size) => {
+        Operand::Direct(segment, size, offset) => put_direct(buf, at, segment, offset, size),
+        Operand::Indirect(segment, size, mode, displacement) => {
             put_indirect(buf, at, segment, mode, displacement, size)
         }
         Operand::Register(register) => put_register(buf, at, register),
