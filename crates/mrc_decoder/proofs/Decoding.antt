@@ -1,18 +1,23 @@
 -- A decode at a position, one byte at a time: what the proof of the code cites.
 -- Assumes nothing.
 use mathlib.Core.Path.{_≡_, refl, sym, _∙_, ap, ap₂, subst}
+use mathlib.Core.Logic.{⊎-elim}
 use mathlib.Core.Bool.{Bool, true, false, cond, _||_}
 use mathlib.Core.List.{List, [], _∷_}
 use mathlib.Core.Option.{some}
 use Prim.Native.Nat.{ℕ, zero, suc, _+_, _-_, _/_, _%_, _^_, _≤_, _<_}
+use native.Mathlib.Nat.{eq-or-lt-of-le}
 use native.Mathlib.Omega.{arith}
 use native.Mathlib.Numerals.{add-one}
 use lib.ListN.{length, getD, drop, length-drop, drop-of-length-le}
 use lib.Seq.{drop-cons}
-use borrow.Author.Tests.{le-leb, lt-leb}
+use borrow.Author.Tests.{le-leb, lt-leb, eq-eqb, ne-eqb}
 use Rattle.mrc_instruction.specs.declared.errors.Refusal.{Refusal}
+use Rattle.mrc_instruction.specs.declared.operand.OperandSize.{OperandSize}
 use Rattle.mrc_rules.specs.declared.Answer.{Answer}
-use Rattle.mrc_decoder.specs.Form.{Meaning, overrides, repeats, reads, meaningOf}
+use Rattle.mrc_decoder.specs.declared.form.OpcodeAlone.{OpcodeAlone}
+use Rattle.mrc_decoder.specs.declared.form.WithModRM.{WithModRM}
+use Rattle.mrc_decoder.specs.Form.{Meaning, overrides, repeats, reads, nothing, meaningOf, aloneRow, modRMMeant, modRMReading}
 use Rattle.mrc_instruction.specs.Reading.{more, readFrom}
 use Rattle.mrc_instruction.proofs.Rest.{here, none}
 use Rattle.mrc_rules.specs.Answer.{taken, prefixes}
@@ -20,8 +25,9 @@ use Rattle.mrc_rules.specs.Forms.{Row}
 use Rattle.mrc_rules.specs.Table.{rowOf}
 use Rattle.mrc_rules.specs.Prefixes.{isOverride, isRepeat, isPrefix, repeatOf}
 use Rattle.mrc_rules.specs.Decode.{tail, decodeBy, decodeAt, rules}
-use Rattle.mrc_forms.specs.Behind.{alone, readBy}
-use Rattle.mrc_decoder.specs.Wrap.{Small, underOverride, withRepeat, tooMany}
+use Rattle.mrc_forms.specs.Behind.{alone, behind, readBy}
+use Rattle.mrc_decoder.specs.Wrap.{Small, underOverride, withRepeat, tooMany, pastEnd}
+use Rattle.mrc_decoder.proofs.ModRM.{Agrees, modrm-agrees}
 use Rattle.mrc_decoder.proofs.Steps.{step-end, step-tail, step-over, override-prefix, repeat-prefix}
 use Rattle.mrc_decoder.proofs.Wrapping.{override-wraps, repeat-wraps}
 use Rattle.mrc_rules.proofs.Counting.{taken-there, prefixes-there}
@@ -31,6 +37,7 @@ abbrev Says : ℕ → Meaning → Type 0
 Says b overrides = isOverride b ≡ true
 Says b repeats = isRepeat b ≡ true
 Says b (reads row) = (isPrefix b ≡ false) × (row ≡ rowOf b)
+Says b nothing = ⊥
 
 meaning-says : (b : ℕ) → Says b (meaningOf b)
 meaning-says b = go (isOverride b) (isRepeat b) refl refl
@@ -53,6 +60,21 @@ outside s at n h = rw (lt-leb at (length s) h)
 pub at-end : (s : List ℕ) (at n : ℕ) → length s ≡ at → Answer.Refused Refusal.EndOfInput 0 0 ≡ decodeAt s at n
 at-end s at n h = sym (inside s at n (omega arith) ∙ ap (decodeBy rules n) (none s at (omega arith)) ∙ step-end rules n)
 
+-- a form that is its opcode alone reads nothing, wherever that stands
+pub alone-anywhere : (form : OpcodeAlone) (byte : ℕ) (l : List ℕ) → readBy byte (aloneRow form byte) [] ≡ readBy byte (aloneRow form byte) l
+alone-anywhere (OpcodeAlone.NoOperand op) byte l = refl
+alone-anywhere (OpcodeAlone.OnSegment op) byte l = refl
+alone-anywhere OpcodeAlone.Exchange byte l = refl
+alone-anywhere OpcodeAlone.InDx byte l = refl
+alone-anywhere OpcodeAlone.OutDx byte l = refl
+
+pub past-end : (s : List ℕ) (at n : ℕ) → length s ≤ at → pastEnd (length s) at ≡ decodeAt s at n
+past-end s at n h =
+    ⊎-elim
+    (λ e. rw (eq-eqb (length s) at e) (at-end s at n e))
+    (λ l. let differs : (length s ≡ at → ⊥) = λ e. omega (arith, e) in rw (ne-eqb (length s) at differs) (outside s at n l))
+    (eq-or-lt-of-le h)
+
 module _ (s : List ℕ) (at n : ℕ) (h : at < length s) where
   start : decodeAt s at n ≡ decodeBy rules n (getD s at 0 ∷ drop (at + 1) s)
   start = inside s at n (omega arith) ∙ ap (decodeBy rules n) (here s at h)
@@ -63,6 +85,17 @@ module _ (s : List ℕ) (at n : ℕ) (h : at < length s) where
       f
       ∙ ap (λ (r : Row). readBy (getD s at 0) r (drop (at + 1) s)) (said .1)
       ∙ sym (start ∙ step-tail rules n (getD s at 0) (drop (at + 1) s) (said .0))
+
+  -- a form with a ModRM
+  pub no-prefix-modrm : (form : WithModRM) (size : OperandSize) {d : Answer} → modRMMeant form size (getD s at 0) ≡ meaningOf (getD s at 0)
+      → d ≡ behind (readFrom (modRMReading form size (getD s at 0)) (drop (at + 1) s)) → d ≡ decodeAt s at n
+  no-prefix-modrm form size {d} e f = go (modRMMeant form size (getD s at 0)) e (modrm-agrees form size (getD s at 0))
+    where
+      go : (m : Meaning) → m ≡ meaningOf (getD s at 0) → Agrees (getD s at 0) m (modRMReading form size (getD s at 0)) → d ≡ decodeAt s at n
+      go overrides e a = absurd a
+      go repeats e a = absurd a
+      go (reads row) e a = no-prefix e (f ∙ ap behind (sym (a (drop (at + 1) s))))
+      go nothing e a = absurd (says (getD s at 0) nothing e)
 
   over : isPrefix (getD s at 0) ≡ true → n ≡ 0 → tooMany (getD s at 0) ≡ decodeAt s at n
   over e z =

@@ -1,5 +1,5 @@
 pub mod Arms
-pub mod Opcodes
+pub mod ModRM
 pub mod Steps
 pub mod Wrapping
 pub mod Decoding

@@ -1,62 +1,90 @@
--- The form of a first byte: the row that it stands for, and what the byte means.
+-- The form of a first byte: what the byte means, and what a form with a ModRM reads.
 use Prim.Native.Nat.{ℕ, _/_, _%_}
 use mathlib.Core.Bool.{cond}
 use lib.Dec.{ltb}
+use Rattle.mrc_instruction.specs.declared.operand.OperandSize.{OperandSize}
+use Rattle.mrc_instruction.specs.declared.operand.OperandSize.the-variants.{Byte, Word}
+use Rattle.mrc_instruction.specs.declared.operand.Operand.{Operand}
 use Rattle.mrc_instruction.specs.Register.{registerOf, segmentOf}
-use Rattle.mrc_rules.specs.Forms.{Row, prefix, invalid, bare, accImmediate, onSegment, onRegister, jump, groupByteToWord, popRm, exchange, far, registerImmediate, shiftImmediate, onImmediate, escape, inPort, outPort, inDx, outDx, unary, incDec, arithmetic}
+use Rattle.mrc_instruction.specs.Reading.{Reading, done, _>>=_}
+use Rattle.mrc_instruction.specs.Mrrm.{aModRM}
+use Rattle.mrc_rules.specs.Forms.{Row, Tail, invalid, bare, accImmediate, onSegment, onRegister, jump, groupByteToWord, popRm, exchange, far, registerImmediate, shiftImmediate, onImmediate, escape, inPort, outPort, inDx, outDx, unary, incDec, arithmetic, one, rm, incOrDec, unaryBy}
 use Rattle.mrc_rules.specs.Table.{rowOf}
 use Rattle.mrc_rules.specs.Prefixes.{isOverride, isRepeat}
+use Rattle.mrc_forms.specs.Behind.{popBehind}
 use Rattle.mrc_forms.specs.Traits.{sizeBy}
 use Rattle.mrc_pairs.specs.declared.common.Direction.{Direction}
-use Rattle.mrc_pairs.specs.Common.{directed, segmentDirected, directDirected, immediateTo, shiftBy}
+use Rattle.mrc_pairs.specs.Common.{directed, segmentDirected, directDirected, immediateTo, shiftBy, registerBehind, segmentBehind, immediateBehind, byteBehind, shiftBehind, countBehind}
 use Rattle.mrc_decoder.specs.declared.form.Form.{Form}
+use Rattle.mrc_decoder.specs.declared.form.OpcodeAlone.{OpcodeAlone}
+use Rattle.mrc_decoder.specs.declared.form.WithModRM.{WithModRM}
 
--- a first byte is a prefix of one kind or the other, or it reads by its row
+-- a first byte is a prefix of one kind or the other, or it reads by its row; no byte means the last, which is left for forms whose operand has
+-- no such size
 pub data Meaning : Type 0 where
   overrides repeats : Meaning
   reads : Row → Meaning
+  nothing : Meaning
 
 abbrev pub meaningOf : ℕ → Meaning
 meaningOf byte = cond (isOverride byte) overrides (cond (isRepeat byte) repeats (reads (rowOf byte)))
 
--- the same, as a form says it
+-- the row of a form that is its opcode alone
+abbrev pub aloneRow : OpcodeAlone → ℕ → Row
+aloneRow (OpcodeAlone.NoOperand op) byte = bare op
+aloneRow (OpcodeAlone.OnSegment op) byte = onSegment op (segmentOf (byte / 8 % 4))
+aloneRow OpcodeAlone.Exchange byte = exchange (registerOf (byte % 8))
+aloneRow OpcodeAlone.InDx byte = inDx (sizeBy byte)
+aloneRow OpcodeAlone.OutDx byte = outDx (sizeBy byte)
+
+-- what a form with a ModRM means
+abbrev pub modRMMeant : WithModRM → OperandSize → ℕ → Meaning
+modRMMeant WithModRM.Pop Word byte = reads popRm
+modRMMeant WithModRM.Pop Byte byte = nothing
+modRMMeant WithModRM.Increment size byte = reads (incDec size)
+modRMMeant WithModRM.Unary size byte = reads (unary size)
+modRMMeant (WithModRM.RegisterOrMemoryAndRegister op direction) size byte = reads (directed direction byte op size)
+modRMMeant WithModRM.RegisterOrMemoryAndSegment Word byte = reads (segmentDirected byte)
+modRMMeant WithModRM.RegisterOrMemoryAndSegment Byte byte = nothing
+modRMMeant (WithModRM.ImmediateToRegisterOrMemory group) size byte = reads (immediateTo group size)
+modRMMeant WithModRM.ByteToRegisterOrMemory Word byte = reads groupByteToWord
+modRMMeant WithModRM.ByteToRegisterOrMemory Byte byte = nothing
+modRMMeant WithModRM.ShiftByImmediate size byte = reads (shiftImmediate size)
+modRMMeant WithModRM.ShiftByCount size byte = reads (shiftBy size byte)
+
+-- what a first byte means, as a form says it
 abbrev pub meant : Form → ℕ → Meaning
 meant Form.Override byte = overrides
 meant Form.Repeat byte = repeats
 meant Form.Invalid byte = reads invalid
-meant (Form.NoOperand op) byte = reads (bare op)
-meant (Form.OnSegment op) byte = reads (onSegment op (segmentOf (byte / 8 % 4)))
 meant (Form.OnRegister op) byte = reads (onRegister op (registerOf (byte % 8)))
 meant (Form.OnImmediate op size) byte = reads (onImmediate op size)
 meant (Form.OnDisplacement op size) byte = reads (jump op size)
 meant (Form.Far op) byte = reads (far op)
 meant Form.Escape byte = reads escape
-meant Form.Pop byte = reads popRm
-meant Form.Increment byte = reads (incDec (sizeBy byte))
-meant Form.Unary byte = reads (unary (sizeBy byte))
-meant Form.Exchange byte = reads (exchange (registerOf (byte % 8)))
-meant Form.InDx byte = reads (inDx (sizeBy byte))
-meant Form.OutDx byte = reads (outDx (sizeBy byte))
 meant Form.InPort byte = reads (inPort (sizeBy byte))
 meant Form.OutPort byte = reads (outPort (sizeBy byte))
 meant Form.RegisterAndImmediate byte = reads (registerImmediate (registerOf (byte % 8)) (sizeBy (byte / 8)))
 meant Form.AccumulatorAndDirect byte = reads (directDirected byte)
-meant (Form.RegisterOrMemoryAndRegister op direction size) byte = reads (directed direction byte op size)
-meant Form.RegisterOrMemoryAndSegment byte = reads (segmentDirected byte)
-meant (Form.ImmediateToRegisterOrMemory group) byte = reads (immediateTo group (sizeBy byte))
 meant (Form.ImmediateToAccumulator op) byte = reads (accImmediate op (sizeBy byte))
-meant Form.ByteToRegisterOrMemory byte = reads groupByteToWord
-meant Form.ShiftByImmediate byte = reads (shiftImmediate (sizeBy byte))
-meant Form.ShiftByCount byte = reads (shiftBy byte)
+meant (Form.OpcodeAlone form) byte = reads (aloneRow form byte)
+meant (Form.WithModRM form size) byte = modRMMeant form size byte
 
--- the row of a form; a prefix has the row `prefix`
-abbrev pub rowIn : Meaning → Row
-rowIn overrides = prefix
-rowIn repeats = prefix
-rowIn (reads row) = row
+-- what a form with a ModRM reads behind it, by the operand that its mod and rm name and by its byte
+abbrev pub modRMBehind : WithModRM → OperandSize → ℕ → Operand → ℕ → Reading Tail
+modRMBehind WithModRM.Pop size opcode operand byte = popBehind operand byte
+modRMBehind WithModRM.Increment size opcode operand byte = done (one (incOrDec (byte / 8 % 8)) operand)
+modRMBehind WithModRM.Unary size opcode operand byte = unaryBy (byte / 8 % 8) operand size
+modRMBehind (WithModRM.RegisterOrMemoryAndRegister op direction) size opcode operand byte = done (registerBehind direction opcode op size operand byte)
+modRMBehind WithModRM.RegisterOrMemoryAndSegment size opcode operand byte = segmentBehind opcode operand byte
+modRMBehind (WithModRM.ImmediateToRegisterOrMemory group) size opcode operand byte = immediateBehind group size operand byte
+modRMBehind WithModRM.ByteToRegisterOrMemory size opcode operand byte = byteBehind operand byte
+modRMBehind WithModRM.ShiftByImmediate size opcode operand byte = shiftBehind operand byte
+modRMBehind WithModRM.ShiftByCount size opcode operand byte = done (countBehind opcode size operand byte)
 
-abbrev pub rowFor : Form → ℕ → Row
-rowFor form opcode = rowIn (meant form opcode)
+-- the whole of it: the ModRM, and what is read behind it
+abbrev pub modRMReading : WithModRM → OperandSize → ℕ → Reading Tail
+modRMReading form size opcode = aModRM >>= λ m. modRMBehind form size opcode (rm m size) (m .byte)
 
 -- "00 to 3F by bits 5 to 3 (ADD OR ADC SBB AND SUB XOR CMP): low bits 0 to 3, rm,reg or with d reg,rm; 4 and 5, accumulator,immediate."
 abbrev pub group1Row : ℕ → Row

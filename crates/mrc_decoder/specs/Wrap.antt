@@ -1,6 +1,8 @@
 -- What a prefix makes of the answer behind it: the decoder calls itself after the prefix, with the budget one lower, and wraps what comes back.
 -- Both counts grow by one.
 use Prim.Native.Nat.{ℕ, _+_, _<_, _^_}
+use mathlib.Core.Bool.{cond}
+use lib.Dec.{eqb}
 use Rattle.mrc_instruction.specs.declared.errors.Refusal.{Refusal}
 use Rattle.mrc_instruction.specs.declared.errors.Refusal.the-variants.{EndOfInput, CouldNotReadExtraBytes, InvalidDataSizeEncoding, InvalidIndirectMemoryEncoding, InvalidModRegRMEncoding, InvalidOpCode, InvalidRegisterEncoding, InvalidSegmentEncoding, InvalidPrefix, TooManyPrefixes, OutsideInput, NoRoom, ImageTooLong}
 use Rattle.mrc_instruction.specs.declared.instruction.Repeated.{Repeated}
@@ -57,6 +59,10 @@ underOverride = underOverrideBy overridden
 -- a prefix over the budget
 abbrev pub tooMany : ℕ → Answer
 tooMany b = Answer.Refused (TooManyPrefixes b) 1 1
+
+-- no byte at a position: "EndOfInput: no opcode byte" at the end, "OutsideInput: position beyond the length"
+abbrev pub pastEnd : ℕ → ℕ → Answer
+pastEnd len at = cond (eqb len at) (Answer.Refused EndOfInput 0 0) (Answer.Refused OutsideInput 0 0)
 
 -- both counts can grow by one
 abbrev pub Small : Answer → Type 0

@@ -1,8 +1,11 @@
 // The instruction at a position: its prefixes, its opcode, and what follows.
 use crate::form::Form;
+use crate::form::OpcodeAlone;
+use crate::form::WithModRM;
 use crate::form::form_of;
 use crate::prefixes::under_override;
 use crate::prefixes::with_repeat;
+use mrc_forms::answers::FormRead;
 use mrc_forms::forms::escape;
 use mrc_forms::forms::far;
 use mrc_forms::forms::increment;
@@ -14,6 +17,9 @@ use mrc_forms::forms::on_register;
 use mrc_forms::forms::on_segment;
 use mrc_forms::forms::pop;
 use mrc_instruction::errors::Refusal;
+use mrc_instruction::mrrm::OperandRead;
+use mrc_instruction::mrrm::read_operand;
+use mrc_instruction::operand::OperandSize;
 use mrc_pairs::common::immediate_to_accumulator;
 use mrc_pairs::common::immediate_to_register_or_memory;
 use mrc_pairs::common::register_or_memory_and_register;
@@ -31,50 +37,60 @@ use mrc_pairs::pairs::shift_by_immediate;
 use mrc_pairs::pairs::unary;
 use mrc_rules::Answer;
 ghost use mathlib.Core.Path.{_≡_};
+ghost use mathlib.Core.List.{[]};
 ghost use lib.ListN.{drop};
+ghost use Rattle.mrc_instruction.specs.Reading.{readFrom};
 ghost use Rattle.mrc_rules.specs.Decode.{decodeAt};
-ghost use Rattle.mrc_forms.specs.Behind.{readBy};
-ghost use Rattle.mrc_decoder.specs.Form.{rowFor};
-ghost use Rattle.mrc_decoder.specs.Wrap.{tooMany};
+ghost use Rattle.mrc_forms.specs.Behind.{readBy, formRead};
+ghost use Rattle.mrc_decoder.specs.Form.{aloneRow, modRMReading};
+ghost use Rattle.mrc_decoder.specs.Wrap.{tooMany, pastEnd};
 
-// What follows an opcode, by its form, from the position behind it on.
-fn read_form(form: Form, opcode: u8, s: &[u8], at: usize) -> Answer
-    ensures { λ r. ⌜ r ≡ readBy opcode (rowFor form opcode) (drop at (now (s .entry))) ⌝ }
+// A form that is its opcode alone.
+fn opcode_alone(form: OpcodeAlone, opcode: u8) -> Answer
+    ensures { λ r. ⌜ r ≡ readBy opcode (aloneRow form opcode) [] ⌝ }
 {
     match form {
-        Form::Override => return invalid(opcode),
-        Form::Repeat => return invalid(opcode),
-        Form::Invalid => return invalid(opcode),
-        Form::NoOperand(operation) => return no_operand(operation),
-        Form::OnSegment(operation) => return on_segment(operation, opcode),
-        Form::OnRegister(operation) => return on_register(operation, opcode),
-        Form::OnImmediate(operation, size) => return on_immediate(operation, size, s, at),
-        Form::OnDisplacement(operation, size) => return on_displacement(operation, size, s, at),
-        Form::Far(operation) => return far(operation, s, at),
-        Form::Escape => return escape(s, at),
-        Form::Pop => return pop(s, at),
-        Form::Increment => return increment(opcode, s, at),
-        Form::Unary => return unary(opcode, s, at),
-        Form::Exchange => return exchange(opcode),
-        Form::InDx => return in_dx(opcode),
-        Form::OutDx => return out_dx(opcode),
-        Form::InPort => return in_port(opcode, s, at),
-        Form::OutPort => return out_port(opcode, s, at),
-        Form::RegisterAndImmediate => return register_and_immediate(opcode, s, at),
-        Form::AccumulatorAndDirect => return accumulator_and_direct(opcode, s, at),
-        Form::RegisterOrMemoryAndRegister(operation, direction, size) => {
-            return register_or_memory_and_register(operation, direction, size, opcode, s, at);
-        }
-        Form::RegisterOrMemoryAndSegment => return register_or_memory_and_segment(opcode, s, at),
-        Form::ImmediateToRegisterOrMemory(group) => {
-            return immediate_to_register_or_memory(group, opcode, s, at);
-        }
-        Form::ImmediateToAccumulator(operation) => {
-            return immediate_to_accumulator(operation, opcode, s, at);
-        }
-        Form::ByteToRegisterOrMemory => return byte_to_register_or_memory(s, at),
-        Form::ShiftByImmediate => return shift_by_immediate(opcode, s, at),
-        Form::ShiftByCount => return shift_by_count(opcode, s, at),
+        OpcodeAlone::NoOperand(operation) => return no_operand(operation),
+        OpcodeAlone::OnSegment(operation) => return on_segment(operation, opcode),
+        OpcodeAlone::Exchange => return exchange(opcode),
+        OpcodeAlone::InDx => return in_dx(opcode),
+        OpcodeAlone::OutDx => return out_dx(opcode),
+    }
+}
+
+// A form with a ModRM, from the position behind the opcode on: the operand of a size that the ModRM names, and what follows.
+fn with_modrm(form: WithModRM, size: OperandSize, opcode: u8, s: &[u8], at: usize) -> FormRead
+    ensures { λ r. ⌜ r ≡ formRead at (readFrom (modRMReading form size opcode) (drop at (now (s .entry)))) ⌝ }
+{
+    match read_operand(size, s, at) {
+        OperandRead::Got(operand, next, byte) => match form {
+            WithModRM::Pop => return pop(operand, byte, next),
+            WithModRM::Increment => return increment(operand, byte, next),
+            WithModRM::Unary => return unary(size, operand, byte, s, next),
+            WithModRM::RegisterOrMemoryAndRegister(operation, direction) => {
+                return register_or_memory_and_register(
+                    operation,
+                    direction,
+                    size,
+                    opcode,
+                    operand,
+                    byte,
+                    next,
+                );
+            }
+            WithModRM::RegisterOrMemoryAndSegment => {
+                return register_or_memory_and_segment(opcode, operand, byte, next);
+            }
+            WithModRM::ImmediateToRegisterOrMemory(group) => {
+                return immediate_to_register_or_memory(group, size, operand, byte, s, next);
+            }
+            WithModRM::ByteToRegisterOrMemory => {
+                return byte_to_register_or_memory(operand, byte, s, next);
+            }
+            WithModRM::ShiftByImmediate => return shift_by_immediate(operand, byte, s, next),
+            WithModRM::ShiftByCount => return shift_by_count(opcode, size, operand, byte, next),
+        },
+        OperandRead::Refused(e, end) => return FormRead::Refused(e, end),
     }
 }
 
@@ -89,37 +105,74 @@ fn too_many(prefix: u8) -> Answer
     }
 }
 
-// The instruction at a position, or why there is none. Each prefix byte lowers the budget by one, and wraps what the bytes behind it come to.
-pub fn decode_instruction(s: &[u8], at: usize, budget: u8) -> Answer
-    ensures { λ r. ⌜ r ≡ decodeAt (now (s .entry)) at budget ⌝ }
+// There is no byte at the position: it is the end of the input, or beyond.
+fn past(len: usize, at: usize) -> Answer
+    ensures { λ r. ⌜ r ≡ pastEnd len at ⌝ }
 {
-    if s.len() < at {
-        return Answer::Refused {
-            refusal: Refusal::OutsideInput,
-            taken: 0,
-            prefixes: 0,
-        };
-    }
-    if s.len() == at {
+    if len == at {
         return Answer::Refused {
             refusal: Refusal::EndOfInput,
             taken: 0,
             prefixes: 0,
         };
     }
+    Answer::Refused {
+        refusal: Refusal::OutsideInput,
+        taken: 0,
+        prefixes: 0,
+    }
+}
+
+// The instruction at a position, or why there is none. Each prefix byte lowers the budget by one, and wraps what the bytes behind it come to.
+pub fn decode_instruction(s: &[u8], at: usize, budget: u8) -> Answer
+    ensures { λ r. ⌜ r ≡ decodeAt (now (s .entry)) at budget ⌝ }
+{
+    if s.len() <= at {
+        return past(s.len(), at);
+    }
     let byte = s[at];
-    let form = form_of(byte);
-    if let Form::Override = form {
-        if budget == 0 {
-            return too_many(byte);
+    match form_of(byte) {
+        Form::Override => {
+            if budget == 0 {
+                return too_many(byte);
+            }
+            return under_override(byte, decode_instruction(&s[..], at + 1, budget - 1));
         }
-        return under_override(byte, decode_instruction(s, at + 1, budget - 1));
-    }
-    if let Form::Repeat = form {
-        if budget == 0 {
-            return too_many(byte);
+        Form::Repeat => {
+            if budget == 0 {
+                return too_many(byte);
+            }
+            return with_repeat(byte, decode_instruction(&s[..], at + 1, budget - 1));
         }
-        return with_repeat(byte, decode_instruction(s, at + 1, budget - 1));
+        Form::Invalid => return invalid(byte),
+        Form::OnRegister(operation) => return on_register(operation, byte),
+        Form::OnImmediate(operation, size) => return on_immediate(operation, size, s, at + 1),
+        Form::OnDisplacement(operation, size) => return on_displacement(operation, size, s, at + 1),
+        Form::Far(operation) => return far(operation, s, at + 1),
+        Form::Escape => return escape(s, at + 1),
+        Form::InPort => return in_port(byte, s, at + 1),
+        Form::OutPort => return out_port(byte, s, at + 1),
+        Form::RegisterAndImmediate => return register_and_immediate(byte, s, at + 1),
+        Form::AccumulatorAndDirect => return accumulator_and_direct(byte, s, at + 1),
+        Form::ImmediateToAccumulator(operation) => {
+            return immediate_to_accumulator(operation, byte, s, at + 1);
+        }
+        Form::OpcodeAlone(form) => return opcode_alone(form, byte),
+        Form::WithModRM(form, size) => match with_modrm(form, size, byte, s, at + 1) {
+            FormRead::Got(instruction, end) => {
+                return Answer::Decoded {
+                    instruction,
+                    taken: end - at,
+                    prefixes: 0,
+                };
+            }
+            FormRead::Refused(refusal, end) => {
+                return Answer::Refused {
+                    refusal,
+                    taken: end - at,
+                    prefixes: 0,
+                };
+            }
+        },
     }
-    read_form(form, byte, s, at + 1)
 }

@@ -1,4 +1,4 @@
-// Answers with no prefix.
+// Answers with no prefix, and what a form reads behind its ModRM.
 use mrc_instruction::errors::Refusal;
 use mrc_instruction::instruction::Instruction;
 use mrc_instruction::instruction::OperandSet;
@@ -8,6 +8,12 @@ ghost use mathlib.Core.Path.{_≡_};
 ghost use Rattle.mrc_instruction.specs.Instruction.{plain};
 ghost use Rattle.mrc_instruction.specs.Reading.{got, stopped};
 ghost use Rattle.mrc_forms.specs.Behind.{alone};
+
+// The instruction, or why there is none, with the position behind the bytes taken.
+pub enum FormRead {
+    Got(Instruction, usize),
+    Refused(Refusal, usize),
+}
 
 // An instruction, with the bytes taken.
 pub fn decoded(operation: Operation, operands: OperandSet, taken: usize) -> Answer

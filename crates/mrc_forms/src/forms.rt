@@ -1,17 +1,16 @@
-// The forms with no operand or one. One that reads takes the position behind the opcode.
+// The forms with no operand or one. One that reads takes the position behind the opcode, or behind its ModRM.
+use crate::answers::FormRead;
 use crate::answers::decoded;
 use crate::answers::refused;
 use crate::groups::increment_operation;
 use crate::traits::DisplacementRead;
 use crate::traits::ImmediateRead;
-use crate::traits::operand_size;
 use crate::traits::read_displacement;
 use crate::traits::read_immediate;
 use mrc_instruction::address::Address;
 use mrc_instruction::errors::Refusal;
+use mrc_instruction::instruction::Instruction;
 use mrc_instruction::instruction::OperandSet;
-use mrc_instruction::mrrm::ModRegRM;
-use mrc_instruction::mrrm::MrrmRead;
 use mrc_instruction::operand::Operand;
 use mrc_instruction::operand::OperandSize;
 use mrc_instruction::operation::Operation;
@@ -28,9 +27,10 @@ ghost use mathlib.Core.List.{[]};
 ghost use Prim.Native.Nat.{_/_, _%_};
 ghost use lib.ListN.{drop};
 ghost use Rattle.mrc_instruction.specs.Register.{registerOf, segmentOf};
-ghost use Rattle.mrc_rules.specs.Forms.{invalid as invalidRow, bare, onSegment, onRegister, onImmediate, jump, far as farRow, escape as escapeRow, popRm, incDec};
-ghost use Rattle.mrc_forms.specs.Behind.{readBy};
-ghost use Rattle.mrc_forms.specs.Traits.{sizeBy};
+ghost use Rattle.mrc_instruction.specs.Reading.{readFrom};
+ghost use Rattle.mrc_rules.specs.Forms.{invalid as invalidRow, bare, onSegment, onRegister, onImmediate, jump, far as farRow, escape as escapeRow, one, incOrDec};
+ghost use Rattle.mrc_forms.specs.declared.answers.FormRead.{FormRead};
+ghost use Rattle.mrc_forms.specs.Behind.{readBy, formRead, popBehind};
 
 // No instruction has this opcode.
 pub fn invalid(opcode: u8) -> Answer
@@ -115,35 +115,23 @@ pub fn escape(s: &[u8], at: usize) -> Answer
     }
 }
 
-// 8F: POP of a word register or memory. Its displacement is read before reg is tested.
-pub fn pop(s: &[u8], at: usize) -> Answer
-    ensures { λ r. ⌜ r ≡ readBy 0 popRm (drop at (now (s .entry))) ⌝ }
+// 8F: POP of a word register or memory, by the operand that its ModRM names, the ModRM's byte and the position behind it. Its displacement is
+// read before reg is tested.
+pub fn pop(destination: Operand, byte: u8, at: usize) -> FormRead
+    ensures { λ r. ⌜ r ≡ formRead at (readFrom (popBehind destination byte) []) ⌝ }
 {
-    match ModRegRM::try_from_bytes(s, at) {
-        MrrmRead::Got(mrrm, byte, n) => {
-            if byte / 8 % 8 != 0 {
-                return refused(Refusal::InvalidModRegRMEncoding(byte), n + 1);
-            }
-            let register_or_memory = mrrm.register_or_memory;
-            let destination = register_or_memory.into_operand(OperandSize::Word);
-            return decoded(Operation::POP, OperandSet::Destination(destination), n + 1);
-        }
-        MrrmRead::Refused(e, n) => return refused(e, n + 1),
+    if byte / 8 % 8 != 0 {
+        return FormRead::Refused(Refusal::InvalidModRegRMEncoding(byte), at);
     }
+    let operands = OperandSet::Destination(destination);
+    return FormRead::Got(Instruction::new(Operation::POP, operands), at);
 }
 
 // FE and FF, by reg: INC, DEC, CALL, JMP and PUSH of the register or memory.
-pub fn increment(opcode: u8, s: &[u8], at: usize) -> Answer
-    ensures { λ r. ⌜ r ≡ readBy opcode (incDec (sizeBy opcode)) (drop at (now (s .entry))) ⌝ }
+pub fn increment(destination: Operand, byte: u8, at: usize) -> FormRead
+    ensures { λ r. ⌜ r ≡ FormRead.Got (one (incOrDec (byte / 8 % 8)) destination) at ⌝ }
 {
-    let size = operand_size(opcode);
-    match ModRegRM::try_from_bytes(s, at) {
-        MrrmRead::Got(mrrm, byte, n) => {
-            let register_or_memory = mrrm.register_or_memory;
-            let destination = register_or_memory.into_operand(size);
-            let operation = increment_operation(byte / 8 % 8);
-            return decoded(operation, OperandSet::Destination(destination), n + 1);
-        }
-        MrrmRead::Refused(e, n) => return refused(e, n + 1),
-    }
+    let operation = increment_operation(byte / 8 % 8);
+    let operands = OperandSet::Destination(destination);
+    return FormRead::Got(Instruction::new(operation, operands), at);
 }

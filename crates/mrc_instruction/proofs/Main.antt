@@ -22,6 +22,7 @@ use Rattle.mrc_instruction.specs.declared.instruction.Instruction.{Instr
 use Rattle.mrc_instruction.specs.declared.mrrm.RegisterOrMemory.{RegisterOrMemory}
 use Rattle.mrc_instruction.specs.declared.mrrm.RegisterOrMemoryRead.{RegisterOrMemoryRead}
 use Rattle.mrc_instruction.specs.declared.mrrm.MrrmRead.{MrrmRead}
+use Rattle.mrc_instruction.specs.declared.mrrm.OperandRead.{OperandRead}
 use Rattle.mrc_instruction.specs.declared.read.ByteRead.{ByteRead}
 use Rattle.mrc_instruction.specs.declared.read.WordRead.{WordRead}
 use Rattle.mrc_instruction.specs.Promise.{ExactlyOne}
@@ -32,7 +33,7 @@ use Rattle.mrc_instruction.specs.Instruction.{plain}
 use Rattle.mrc_instruction.specs.Signed.{signedByte, signedWord}
 use Rattle.mrc_instruction.specs.Reading.{Outcome, stopped, readFrom, readAt, aByte, aWord}
 use Rattle.mrc_instruction.specs.Mrrm.{ModRM, aModRM, registerOrMemory, operandOf}
-use Rattle.mrc_instruction.specs.Read.{byteRead, wordRead, registerOrMemoryRead, mrrmRead}
+use Rattle.mrc_instruction.specs.Read.{byteRead, wordRead, registerOrMemoryRead, mrrmRead, operandRead}
 use Rattle.mrc_instruction.proofs.Unique.{exactly-one}
 use Rattle.mrc_instruction.proofs.Ends.{Ended, ends, takes-byte, takes-word, takes-modrm}
 
@@ -76,6 +77,9 @@ into-operand x size = exactly-one (operandOf size x)
 try-from-bytes-and-read-mrrm : (s : List ℕ) (at : ℕ)
     → ExactlyOne (λ (r : MrrmRead). r ≡ mrrmRead (readFrom aModRM (drop at s))) × ExactlyOne (λ (r : MrrmRead). r ≡ mrrmRead (readAt aModRM s at))
 try-from-bytes-and-read-mrrm s at = (exactly-one (mrrmRead (readFrom aModRM (drop at s))), exactly-one (mrrmRead (readAt aModRM s at)))
+
+read-operand : (size : OperandSize) (s : List ℕ) (at : ℕ) → ExactlyOne (λ (r : OperandRead). r ≡ operandRead size at (readFrom aModRM (drop at s)))
+read-operand size s at = exactly-one (operandRead size at (readFrom aModRM (drop at s)))
 
 -- 2. The fields in order, and the two least signed numbers.
 in-order :

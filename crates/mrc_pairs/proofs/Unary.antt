@@ -1,6 +1,6 @@
 -- F6 and F7, by reg.
 -- Assumes nothing.
-use mathlib.Core.Path.{_≡_, refl, ap, sym}
+use mathlib.Core.Path.{_≡_}
 use Prim.Native.Nat.{ℕ, zero, suc, _-_, _≤_}
 use native.Mathlib.Omega.{arith}
 use Rattle.mrc_instruction.specs.declared.errors.Refusal.{Refusal}

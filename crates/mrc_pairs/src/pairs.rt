@@ -1,4 +1,6 @@
-// The other forms with a destination and a source. One that reads takes the position behind the opcode.
+// The other forms with a destination and a source. Those with a ModRM take the operand that it names, its byte and the position behind it;
+// the others that read take the position behind the opcode.
+use mrc_forms::answers::FormRead;
 use mrc_forms::answers::decoded;
 use mrc_forms::answers::refused;
 use mrc_forms::groups::group2_operation;
@@ -8,9 +10,8 @@ use mrc_forms::traits::ImmediateRead;
 use mrc_forms::traits::operand_size;
 use mrc_forms::traits::read_immediate;
 use mrc_instruction::errors::Refusal;
+use mrc_instruction::instruction::Instruction;
 use mrc_instruction::instruction::OperandSet;
-use mrc_instruction::mrrm::ModRegRM;
-use mrc_instruction::mrrm::MrrmRead;
 use mrc_instruction::operand::Immediate;
 use mrc_instruction::operand::Operand;
 use mrc_instruction::operand::OperandSize;
@@ -28,10 +29,12 @@ ghost use mathlib.Core.List.{[]};
 ghost use Prim.Native.Nat.{_/_, _%_};
 ghost use lib.ListN.{drop};
 ghost use Rattle.mrc_instruction.specs.Register.{registerOf};
-ghost use Rattle.mrc_rules.specs.Forms.{exchange as exchangeRow, inDx, outDx, registerImmediate, inPort, outPort, groupByteToWord, shiftImmediate, unary as unaryRow};
-ghost use Rattle.mrc_forms.specs.Behind.{readBy};
+ghost use Rattle.mrc_instruction.specs.Reading.{readFrom};
+ghost use Rattle.mrc_rules.specs.Forms.{exchange as exchangeRow, inDx, outDx, registerImmediate, inPort, outPort, unaryBy};
+ghost use Rattle.mrc_forms.specs.declared.answers.FormRead.{FormRead};
+ghost use Rattle.mrc_forms.specs.Behind.{readBy, formRead};
 ghost use Rattle.mrc_forms.specs.Traits.{sizeBy};
-ghost use Rattle.mrc_pairs.specs.Common.{directDirected, shiftBy};
+ghost use Rattle.mrc_pairs.specs.Common.{directDirected, byteBehind, shiftBehind, countBehind};
 
 // 91 to 97: XCHG of AX and the word register that the low bits of the opcode name.
 pub fn exchange(opcode: u8) -> Answer
@@ -172,109 +175,74 @@ fn widened(byte: u8) -> u16
 }
 
 // 83: a word register or memory, and one byte widened with zeros.
-pub fn byte_to_register_or_memory(s: &[u8], at: usize) -> Answer
-    ensures { λ r. ⌜ r ≡ readBy 0 groupByteToWord (drop at (now (s .entry))) ⌝ }
+pub fn byte_to_register_or_memory(destination: Operand, byte: u8, s: &[u8], at: usize) -> FormRead
+    ensures { λ r. ⌜ r ≡ formRead at (readFrom (byteBehind destination byte) (drop at (now (s .entry)))) ⌝ }
 {
-    match ModRegRM::try_from_bytes(s, at) {
-        MrrmRead::Got(mrrm, byte, n) => match read_u8(s, at + n) {
-            ByteRead::Got(immediate, k) => {
-                let register_or_memory = mrrm.register_or_memory;
-                let destination = register_or_memory.into_operand(OperandSize::Word);
-                let word = Operand::Immediate(Immediate::Word(widened(immediate)));
-                let operation = group80_operation(byte / 8 % 8);
-                return decoded(
-                    operation,
-                    OperandSet::DestinationAndSource(destination, word),
-                    n + k + 1,
-                );
-            }
-            ByteRead::Refused(e, k) => return refused(e, n + k + 1),
-        },
-        MrrmRead::Refused(e, n) => return refused(e, n + 1),
+    match read_u8(s, at) {
+        ByteRead::Got(immediate, n) => {
+            let word = Operand::Immediate(Immediate::Word(widened(immediate)));
+            let operation = group80_operation(byte / 8 % 8);
+            let operands = OperandSet::DestinationAndSource(destination, word);
+            return FormRead::Got(Instruction::new(operation, operands), at + n);
+        }
+        ByteRead::Refused(e, n) => return FormRead::Refused(e, at + n),
     }
 }
 
 // C0 and C1: a shift by an immediate byte.
-pub fn shift_by_immediate(opcode: u8, s: &[u8], at: usize) -> Answer
-    ensures { λ r. ⌜ r ≡ readBy opcode (shiftImmediate (sizeBy opcode)) (drop at (now (s .entry))) ⌝ }
+pub fn shift_by_immediate(destination: Operand, byte: u8, s: &[u8], at: usize) -> FormRead
+    ensures { λ r. ⌜ r ≡ formRead at (readFrom (shiftBehind destination byte) (drop at (now (s .entry)))) ⌝ }
 {
-    let size = operand_size(opcode);
-    match ModRegRM::try_from_bytes(s, at) {
-        MrrmRead::Got(mrrm, byte, n) => match read_immediate(OperandSize::Byte, s, at + n) {
-            ImmediateRead::Got(immediate, k) => {
-                let register_or_memory = mrrm.register_or_memory;
-                let destination = register_or_memory.into_operand(size);
-                let count = Operand::Immediate(immediate);
-                let operation = group2_operation(byte / 8 % 8);
-                return decoded(
-                    operation,
-                    OperandSet::DestinationAndSource(destination, count),
-                    n + k + 1,
-                );
-            }
-            ImmediateRead::Refused(e, k) => return refused(e, n + k + 1),
-        },
-        MrrmRead::Refused(e, n) => return refused(e, n + 1),
+    match read_immediate(OperandSize::Byte, s, at) {
+        ImmediateRead::Got(immediate, n) => {
+            let count = Operand::Immediate(immediate);
+            let operation = group2_operation(byte / 8 % 8);
+            let operands = OperandSet::DestinationAndSource(destination, count);
+            return FormRead::Got(Instruction::new(operation, operands), at + n);
+        }
+        ImmediateRead::Refused(e, n) => return FormRead::Refused(e, at + n),
     }
 }
 
 // D0 to D3: a shift by 1, or by ClCx of the same size where bit 1 is set.
-pub fn shift_by_count(opcode: u8, s: &[u8], at: usize) -> Answer
-    ensures { λ r. ⌜ r ≡ readBy opcode (shiftBy opcode) (drop at (now (s .entry))) ⌝ }
+pub fn shift_by_count(
+    opcode: u8,
+    size: OperandSize,
+    destination: Operand,
+    byte: u8,
+    at: usize,
+) -> FormRead
+    ensures { λ r. ⌜ r ≡ FormRead.Got (countBehind opcode size destination byte) at ⌝ }
 {
-    let size = operand_size(opcode);
-    match ModRegRM::try_from_bytes(s, at) {
-        MrrmRead::Got(mrrm, byte, n) => {
-            let register_or_memory = mrrm.register_or_memory;
-            let destination = register_or_memory.into_operand(size);
-            let operation = group2_operation(byte / 8 % 8);
-            if opcode / 2 % 2 == 1 {
-                let cl = Operand::Register(SizedRegisterEncoding(RegisterEncoding::ClCx, size));
-                return decoded(
-                    operation,
-                    OperandSet::DestinationAndSource(destination, cl),
-                    n + 1,
-                );
-            }
-            let once = Operand::Immediate(Immediate::Byte(1));
-            return decoded(
-                operation,
-                OperandSet::DestinationAndSource(destination, once),
-                n + 1,
-            );
-        }
-        MrrmRead::Refused(e, n) => return refused(e, n + 1),
+    let operation = group2_operation(byte / 8 % 8);
+    if opcode / 2 % 2 == 1 {
+        let cl = Operand::Register(SizedRegisterEncoding(RegisterEncoding::ClCx, size));
+        let operands = OperandSet::DestinationAndSource(destination, cl);
+        return FormRead::Got(Instruction::new(operation, operands), at);
     }
+    let once = Operand::Immediate(Immediate::Byte(1));
+    let operands = OperandSet::DestinationAndSource(destination, once);
+    return FormRead::Got(Instruction::new(operation, operands), at);
 }
 
 // F6 and F7, by reg: TEST with an immediate, 1 refused, and six on the register or memory alone.
-pub fn unary(opcode: u8, s: &[u8], at: usize) -> Answer
-    ensures { λ r. ⌜ r ≡ readBy opcode (unaryRow (sizeBy opcode)) (drop at (now (s .entry))) ⌝ }
+pub fn unary(size: OperandSize, destination: Operand, byte: u8, s: &[u8], at: usize) -> FormRead
+    ensures { λ r. ⌜ r ≡ formRead at (readFrom (unaryBy (byte / 8 % 8) destination size) (drop at (now (s .entry)))) ⌝ }
 {
-    let size = operand_size(opcode);
-    match ModRegRM::try_from_bytes(s, at) {
-        MrrmRead::Got(mrrm, byte, n) => {
-            let register_or_memory = mrrm.register_or_memory;
-            let destination = register_or_memory.into_operand(size);
-            match byte / 8 % 8 {
-                0 => match read_immediate(size, s, at + n) {
-                    ImmediateRead::Got(immediate, k) => {
-                        let source = Operand::Immediate(immediate);
-                        return decoded(
-                            Operation::TEST,
-                            OperandSet::DestinationAndSource(destination, source),
-                            n + k + 1,
-                        );
-                    }
-                    ImmediateRead::Refused(e, k) => return refused(e, n + k + 1),
-                },
-                1 => return refused(Refusal::InvalidOpCode(1), n + 1),
-                _ => {
-                    let operation = unary_operation(byte / 8 % 8 - 2);
-                    return decoded(operation, OperandSet::Destination(destination), n + 1);
-                }
+    match byte / 8 % 8 {
+        0 => match read_immediate(size, s, at) {
+            ImmediateRead::Got(immediate, n) => {
+                let source = Operand::Immediate(immediate);
+                let operands = OperandSet::DestinationAndSource(destination, source);
+                return FormRead::Got(Instruction::new(Operation::TEST, operands), at + n);
             }
+            ImmediateRead::Refused(e, n) => return FormRead::Refused(e, at + n),
+        },
+        1 => return FormRead::Refused(Refusal::InvalidOpCode(1), at),
+        _ => {
+            let operation = unary_operation(byte / 8 % 8 - 2);
+            let operands = OperandSet::Destination(destination);
+            return FormRead::Got(Instruction::new(operation, operands), at);
         }
-        MrrmRead::Refused(e, n) => return refused(e, n + 1),
     }
 }

@@ -42,38 +42,45 @@ mod exported {
     }
 }
 
+#[inline]
 pub fn decode(bytes: &[u8], position: usize, budget: u8, out: &mut [u8]) -> usize {
     let (input, room) = (bytes.as_ptr(), out.len());
     // SAFETY: both slices are valid for their lengths, and `out` is lent to this call alone.
     unsafe { exported::mrc_decode(input, bytes.len(), position, budget, out.as_mut_ptr(), room) }
 }
 
+#[inline]
 pub fn mrrm(bytes: &[u8], position: usize, out: &mut [u8]) -> usize {
     let (input, room) = (bytes.as_ptr(), out.len());
     // SAFETY: as in `decode`.
     unsafe { exported::mrc_mrrm(input, bytes.len(), position, out.as_mut_ptr(), room) }
 }
 
+#[inline]
 pub fn register(field: u8) -> u32 {
     // SAFETY: a function on numbers that asks nothing of its caller.
     unsafe { exported::mrc_register(field) }
 }
 
+#[inline]
 pub fn segment(field: u8) -> u32 {
     // SAFETY: as in `register`.
     unsafe { exported::mrc_segment(field) }
 }
 
+#[inline]
 pub fn addressing(field: u8) -> u32 {
     // SAFETY: as in `register`.
     unsafe { exported::mrc_addressing(field) }
 }
 
+#[inline]
 pub fn operand_size(kind: u8, size: u8) -> u8 {
     // SAFETY: as in `register`.
     unsafe { exported::mrc_operand_size(kind, size) }
 }
 
+#[inline]
 pub fn line(image: &[u8], position: usize, out: &mut [u8]) -> u64 {
     let (input, room) = (image.as_ptr(), out.len());
     // SAFETY: as in `decode`.
@@ -81,6 +88,7 @@ pub fn line(image: &[u8], position: usize, out: &mut [u8]) -> u64 {
 }
 
 /// The bytes taken by a decode, 65,536 times its prefixes, and 2^32 times its refusal's number.
+#[inline]
 pub fn step(bytes: &[u8], position: usize, budget: u8) -> u64 {
     // SAFETY: the slice is valid for its length.
     unsafe { exported::mrc_step(bytes.as_ptr(), bytes.len(), position, budget) }

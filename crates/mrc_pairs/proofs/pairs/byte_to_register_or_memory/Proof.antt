@@ -1,26 +1,14 @@
--- Two readings, and then done. The sums fit, since what a reading took is there.
+-- One reading, and then done. The sums fit, since what a reading took is there.
 -- Assumes nothing.
-use mathlib.Core.Path.{refl, sym, _∙_}
-use Prim.Native.Nat.{_+_}
+use mathlib.Core.Path.{refl, sym, ap, _∙_}
 use native.Mathlib.Omega.{arith}
-use Rattle.mrc_instruction.specs.Mrrm.{aModRM}
 use Rattle.mrc_instruction.specs.Reading.{aByte}
-use Rattle.mrc_instruction.proofs.Then.{took, then-at, done-at, stop-at}
-use Rattle.mrc_instruction.proofs.Heard.{mrrm-is}
+use Rattle.mrc_instruction.proofs.Then.{took, done-at, stop-at}
+use Rattle.mrc_forms.specs.Behind.{formRead}
 use Rattle.mrc_instruction.proofs.Heard.{byte-is}
-use Rattle.mrc_forms.proofs.Behind.{got-behind, stop-behind}
 use borrow.Author.Needs.{needs}
 use Rattle.mrc_pairs.proofs.pairs.byte_to_register_or_memory.Statement.{statement}
 use Rattle.mrc_pairs.proofs.pairs.byte_to_register_or_memory.Tie as tie
-
-try-from-bytes-requires : tie.Need-try-from-bytes-requires
-try-from-bytes-requires c κs = search needs
-
-enum-known-mrrm : tie.Need-enum-known-mrrm
-enum-known-mrrm c = search needs
-
-add-read-u8 : tie.Need-add-read-u8
-add-read-u8 c = omega (arith, took aModRM (c .before .before .before .before .before .args .s .now) (c .before .before .before .before .before .args .at) (mrrm-is (sym (c .before .mrrm .given .1) ∙ c .before .before .before .try-from-bytes .ensures)))
 
 read-u8-requires : tie.Need-read-u8-requires
 read-u8-requires c κs = search needs
@@ -28,76 +16,41 @@ read-u8-requires c κs = search needs
 enum-known-immediate : tie.Need-enum-known-immediate
 enum-known-immediate c = search needs
 
-into-operand-requires : tie.Need-into-operand-requires
-into-operand-requires c κs = search needs
-
 widened-requires : tie.Need-widened-requires
 widened-requires c κs = search needs
 
 group80-operation-requires : tie.Need-group80-operation-requires
 group80-operation-requires c κs = search needs
 
-add-decoded : tie.Need-add-decoded
-add-decoded c = omega (arith, took aModRM (c .before .before .before .before .before .before .before .before .before .before .before .before .args .s .now) (c .before .before .before .before .before .before .before .before .before .before .before .before .args .at) (mrrm-is (sym (c .before .before .before .before .before .before .before .before .mrrm .given .1) ∙ c .before .before .before .before .before .before .before .before .before .before .try-from-bytes .ensures)), took aByte (c .before .before .before .before .before .before .before .before .before .before .before .before .args .s .now) (c .before .before .before .before .before .before .before .before .before .before .before .before .args .at + c .before .before .before .before .before .before .before .before .mrrm .given .0 .1 .1 .0) (byte-is (sym (c .before .before .before .before .immediate .given .1) ∙ c .before .before .before .before .before .before .read-u8 .ensures)))
+new-requires : tie.Need-new-requires
+new-requires c κs = search needs
 
-add-decoded-2 : tie.Need-add-decoded-2
-add-decoded-2 c = omega (arith, took aModRM (c .before .before .before .before .before .before .before .before .before .before .before .before .args .s .now) (c .before .before .before .before .before .before .before .before .before .before .before .before .args .at) (mrrm-is (sym (c .before .before .before .before .before .before .before .before .mrrm .given .1) ∙ c .before .before .before .before .before .before .before .before .before .before .try-from-bytes .ensures)), took aByte (c .before .before .before .before .before .before .before .before .before .before .before .before .args .s .now) (c .before .before .before .before .before .before .before .before .before .before .before .before .args .at + c .before .before .before .before .before .before .before .before .mrrm .given .0 .1 .1 .0) (byte-is (sym (c .before .before .before .before .immediate .given .1) ∙ c .before .before .before .before .before .before .read-u8 .ensures)))
-
-decoded-requires : tie.Need-decoded-requires
-decoded-requires c κs = search needs
+add-t18 : tie.Need-add-t18
+add-t18 c = omega (arith, took aByte (c .before .before .before .before .before .before .before .before .args .s .now) (c .before .before .before .before .before .before .before .before .args .at) (byte-is (sym (c .before .before .before .before .immediate .given .1) ∙ c .before .before .before .before .before .before .read-u8 .ensures)))
 
 returns : tie.Need-returns
-returns c = rw (c .decoded .ensures, c .before .before .before .into-operand .ensures, c .before .group80-operation .ensures, c .before .before .widened .ensures) (got-behind (then-at aModRM _ (c .before .before .before .before .before .before .before .before .before .before .before .before .before .args .s .now) (c .before .before .before .before .before .before .before .before .before .before .before .before .before .args .at) (mrrm-is (sym (c .before .before .before .before .before .before .before .before .before .mrrm .given .1) ∙ c .before .before .before .before .before .before .before .before .before .before .before .try-from-bytes .ensures)) (done-at aByte _ (c .before .before .before .before .before .before .before .before .before .before .before .before .before .args .s .now) (c .before .before .before .before .before .before .before .before .before .before .before .before .before .args .at + c .before .before .before .before .before .before .before .before .before .mrrm .given .0 .1 .1 .0) (byte-is (sym (c .before .before .before .before .before .immediate .given .1) ∙ c .before .before .before .before .before .before .before .read-u8 .ensures)) refl)))
+returns c = rw (c .new .ensures, c .before .before .widened .ensures, c .before .group80-operation .ensures) (ap (formRead (c .before .before .before .before .before .before .before .before .args .at)) (done-at aByte _ (c .before .before .before .before .before .before .before .before .args .s .now) (c .before .before .before .before .before .before .before .before .args .at) (byte-is (sym (c .before .before .before .before .immediate .given .1) ∙ c .before .before .before .before .before .before .read-u8 .ensures)) refl))
 
 enum-known-e : tie.Need-enum-known-e
 enum-known-e c = search needs
 
-add-refused : tie.Need-add-refused
-add-refused c = omega (arith, took aModRM (c .before .before .before .before .before .before .before .before .before .args .s .now) (c .before .before .before .before .before .before .before .before .before .args .at) (mrrm-is (sym (c .before .before .before .before .before .mrrm .given .1) ∙ c .before .before .before .before .before .before .before .try-from-bytes .ensures)), took aByte (c .before .before .before .before .before .before .before .before .before .args .s .now) (c .before .before .before .before .before .before .before .before .before .args .at + c .before .before .before .before .before .mrrm .given .0 .1 .1 .0) (byte-is (sym (c .before .e .given .1) ∙ c .before .before .before .read-u8 .ensures)))
-
-add-refused-2 : tie.Need-add-refused-2
-add-refused-2 c = omega (arith, took aModRM (c .before .before .before .before .before .before .before .before .before .args .s .now) (c .before .before .before .before .before .before .before .before .before .args .at) (mrrm-is (sym (c .before .before .before .before .before .mrrm .given .1) ∙ c .before .before .before .before .before .before .before .try-from-bytes .ensures)), took aByte (c .before .before .before .before .before .before .before .before .before .args .s .now) (c .before .before .before .before .before .before .before .before .before .args .at + c .before .before .before .before .before .mrrm .given .0 .1 .1 .0) (byte-is (sym (c .before .e .given .1) ∙ c .before .before .before .read-u8 .ensures)))
-
-refused-requires : tie.Need-refused-requires
-refused-requires c κs = search needs
+add-t19 : tie.Need-add-t19
+add-t19 c = omega (arith, took aByte (c .before .before .before .before .before .args .s .now) (c .before .before .before .before .before .args .at) (byte-is (sym (c .before .e .given .1) ∙ c .before .before .before .read-u8 .ensures)))
 
 returns-2 : tie.Need-returns-2
-returns-2 c = c .refused .ensures ∙ stop-behind (then-at aModRM _ (c .before .before .before .before .before .before .before .before .before .before .args .s .now) (c .before .before .before .before .before .before .before .before .before .before .args .at) (mrrm-is (sym (c .before .before .before .before .before .before .mrrm .given .1) ∙ c .before .before .before .before .before .before .before .before .try-from-bytes .ensures)) (stop-at aByte _ (c .before .before .before .before .before .before .before .before .before .before .args .s .now) (c .before .before .before .before .before .before .before .before .before .before .args .at + c .before .before .before .before .before .before .mrrm .given .0 .1 .1 .0) (byte-is (sym (c .before .before .e .given .1) ∙ c .before .before .before .before .read-u8 .ensures))))
-
-enum-known-e-2 : tie.Need-enum-known-e-2
-enum-known-e-2 c = search needs
-
-add-refused-3 : tie.Need-add-refused-3
-add-refused-3 c = omega (arith, took aModRM (c .before .before .before .before .before .args .s .now) (c .before .before .before .before .before .args .at) (mrrm-is (sym (c .before .e2 .given .1) ∙ c .before .before .before .try-from-bytes .ensures)))
-
-refused-requires-2 : tie.Need-refused-requires-2
-refused-requires-2 c κs = search needs
-
-returns-3 : tie.Need-returns-3
-returns-3 c = c .refused2 .ensures ∙ stop-behind (stop-at aModRM _ (c .before .before .before .before .before .before .args .s .now) (c .before .before .before .before .before .before .args .at) (mrrm-is (sym (c .before .before .e2 .given .1) ∙ c .before .before .before .before .try-from-bytes .ensures)))
+returns-2 c = ap (formRead (c .before .before .before .before .before .args .at)) (stop-at aByte _ (c .before .before .before .before .before .args .s .now) (c .before .before .before .before .before .args .at) (byte-is (sym (c .before .e .given .1) ∙ c .before .before .before .read-u8 .ensures)))
 
 pub byte-to-register-or-memory-spec : {M : Type 1} → statement M
 byte-to-register-or-memory-spec =
     tie.close
     (tie.spec
-    try-from-bytes-requires
-    enum-known-mrrm
-    add-read-u8
     read-u8-requires
     enum-known-immediate
-    into-operand-requires
     widened-requires
     group80-operation-requires
-    add-decoded
-    add-decoded-2
-    decoded-requires
+    new-requires
+    add-t18
     returns
     enum-known-e
-    add-refused
-    add-refused-2
-    refused-requires
-    returns-2
-    enum-known-e-2
-    add-refused-3
-    refused-requires-2
-    returns-3)
+    add-t19
+    returns-2)

@@ -1,0 +1,223 @@
+-- Forms with a ModRM: each reads what the row that it means reads, and the ModRM's operand and byte are all that it needs of it.
+-- Assumes nothing.
+use mathlib.Core.Path.{_≡_, refl, sym, _∙_, ap}
+use mathlib.Core.Bool.{Bool, true, false, cond}
+use mathlib.Core.List.{List, [], _∷_}
+use Prim.Native.Nat.{ℕ, suc, _+_, _-_, _/_, _%_, _≤_}
+use native.Mathlib.Nat.{add-zero}
+use native.Mathlib.Omega.{arith}
+use lib.Dec.{eqb, ltb}
+use lib.ListN.{drop}
+use Rattle.mrc_instruction.specs.declared.errors.Refusal.{Refusal}
+use Rattle.mrc_instruction.specs.declared.operand.OperandSize.{OperandSize}
+use Rattle.mrc_instruction.specs.declared.operand.OperandSize.the-variants.{Byte, Word}
+use Rattle.mrc_instruction.specs.declared.operand.Operand.{Operand}
+use Rattle.mrc_instruction.specs.declared.operand.Immediate.{Immediate}
+use Rattle.mrc_instruction.specs.declared.operation.Operation.{Operation}
+use Rattle.mrc_instruction.specs.declared.operation.Operation.the-variants.{MOV}
+use Rattle.mrc_instruction.specs.declared.register.RegisterEncoding.{RegisterEncoding}
+use Rattle.mrc_instruction.specs.declared.instruction.Repeated.{Repeated}
+use Rattle.mrc_instruction.specs.declared.instruction.Instruction.{Instruction}
+use Rattle.mrc_instruction.specs.declared.mrrm.RegisterOrMemory.{RegisterOrMemory}
+use Rattle.mrc_instruction.specs.declared.mrrm.OperandRead.{OperandRead}
+use Rattle.mrc_instruction.specs.Register.{registerOf, segmentOf}
+use Rattle.mrc_instruction.specs.Reading.{Reading, done, refuse, Outcome, got, stopped, more, readFrom, _>>=_, aByte}
+use Rattle.mrc_instruction.specs.Mrrm.{ModRM, registerOrMemory, modRM, aModRM}
+use Rattle.mrc_instruction.specs.Read.{operandRead}
+use Rattle.mrc_instruction.proofs.Then.{after, through, then, then-at, stop-at}
+use Rattle.mrc_rules.specs.declared.Answer.{Answer}
+use Rattle.mrc_rules.specs.Forms.{Tail, rest, two, register, anImmediate, arithmetic, shift, rm, rmReg, regRm, rmSegment, segmentRm, groupImmediate, moveImmediate, shiftOne, shiftCl}
+use Rattle.mrc_rules.specs.Prefixes.{made}
+use Rattle.mrc_forms.specs.declared.answers.FormRead.{FormRead}
+use Rattle.mrc_forms.specs.Behind.{behind, formRead, popBehind}
+use Rattle.mrc_pairs.specs.declared.common.Direction.{Direction}
+use Rattle.mrc_pairs.specs.Common.{dBit, regFirst, registerBehind, segmentBehind}
+use Rattle.mrc_decoder.specs.declared.form.WithModRM.{WithModRM}
+use Rattle.mrc_decoder.specs.Form.{Meaning, overrides, repeats, reads, nothing, modRMMeant, modRMReading}
+
+-- two readings that agree behind every ModRM that is read; its register is what reg names
+module _ (f g : ModRM → Reading Tail) (h : (b : ℕ) (x : RegisterOrMemory) → f (modRM b x) ≡ g (modRM b x)) where
+  same : (b : ℕ) (l : List ℕ) (o : Outcome RegisterOrMemory)
+      → through (λ a n. readFrom (f a) (drop n l)) (through (λ x n. readFrom (done (modRM b x)) (drop n l)) o)
+      ≡ through (λ a n. readFrom (g a) (drop n l)) (through (λ x n. readFrom (done (modRM b x)) (drop n l)) o)
+  same b l (got x n) = ap (λ (r : Reading Tail). after (n + 0) (readFrom r (drop (n + 0) l))) (h b x)
+  same b l (stopped e n) = refl
+
+  behind-byte : (b : ℕ) (l : List ℕ)
+      → readFrom ((registerOrMemory (b / 64) (b % 8) >>= λ x. done (modRM b x)) >>= f) l
+      ≡ readFrom ((registerOrMemory (b / 64) (b % 8) >>= λ x. done (modRM b x)) >>= g) l
+  behind-byte b l =
+      let m = registerOrMemory (b / 64) (b % 8) in
+      let first = then m (λ x. done (modRM b x)) l in
+      then (m >>= λ x. done (modRM b x)) f l
+      ∙ ap (through (λ a n. readFrom (f a) (drop n l))) first
+      ∙ same b l (readFrom m l)
+      ∙ sym (then (m >>= λ x. done (modRM b x)) g l ∙ ap (through (λ a n. readFrom (g a) (drop n l))) first)
+
+  by-reg : (l : List ℕ) → readFrom (aModRM >>= f) l ≡ readFrom (aModRM >>= g) l
+  unfolding aByte
+  by-reg [] = refl
+  by-reg (b ∷ l) = ap more (behind-byte b l)
+
+-- a meaning reads what a reading reads
+abbrev pub Agrees : ℕ → Meaning → Reading Tail → Type 0
+Agrees opcode overrides r = ⊥
+Agrees opcode repeats r = ⊥
+Agrees opcode (reads row) r = (l : List ℕ) → readFrom (rest opcode row) l ≡ readFrom r l
+Agrees opcode nothing r = Unit {0}
+
+pub modrm-agrees : (form : WithModRM) (size : OperandSize) (opcode : ℕ) → Agrees opcode (modRMMeant form size opcode) (modRMReading form size opcode)
+modrm-agrees WithModRM.Pop Word opcode = λ l. refl
+modrm-agrees WithModRM.Pop Byte opcode = tt
+modrm-agrees WithModRM.Increment size opcode = λ l. refl
+modrm-agrees WithModRM.Unary size opcode = λ l. refl
+modrm-agrees (WithModRM.RegisterOrMemoryAndRegister op direction) size opcode = go (regFirst direction opcode)
+  where
+    go : (t : Bool) (l : List ℕ)
+        → readFrom (rest opcode (cond t (regRm op size) (rmReg op size))) l
+        ≡ readFrom
+        (aModRM >>= λ m. done (cond t (two op (register (registerOf (m .byte / 8 % 8)) size) (rm m size)) (two op (rm m size) (register (registerOf (m .byte / 8 % 8)) size))))
+        l
+    go true = by-reg _ _ (λ b x. refl)
+    go false = by-reg _ _ (λ b x. refl)
+modrm-agrees WithModRM.RegisterOrMemoryAndSegment Word opcode = go (dBit opcode)
+  where
+    go : (t : Bool) (l : List ℕ)
+        → readFrom (rest opcode (cond t segmentRm rmSegment)) l
+        ≡ readFrom
+        (aModRM >>= λ m. cond (ltb (m .byte / 8 % 8) 4)
+        (done (cond t (two MOV (Operand.Segment (segmentOf (m .byte / 8 % 8))) (rm m Word)) (two MOV (rm m Word) (Operand.Segment (segmentOf (m .byte / 8 % 8))))))
+        (refuse (Refusal.InvalidSegmentEncoding (m .byte / 8 % 8))))
+        l
+    go true l = refl
+    go false l = refl
+modrm-agrees WithModRM.RegisterOrMemoryAndSegment Byte opcode = tt
+modrm-agrees (WithModRM.ImmediateToRegisterOrMemory group) size opcode = go (eqb group 0x80)
+  where
+    go : (t : Bool) (l : List ℕ)
+        → readFrom (rest opcode (cond t (groupImmediate size) (moveImmediate size))) l
+        ≡ readFrom
+        (aModRM >>= λ m. anImmediate size >>= λ i. done (two (cond t (arithmetic (m .byte / 8 % 8)) MOV) (rm m size) (Operand.Immediate i)))
+        l
+    go true l = refl
+    go false l = refl
+modrm-agrees WithModRM.ByteToRegisterOrMemory Word opcode = λ l. refl
+modrm-agrees WithModRM.ByteToRegisterOrMemory Byte opcode = tt
+modrm-agrees WithModRM.ShiftByImmediate size opcode = λ l. refl
+modrm-agrees WithModRM.ShiftByCount size opcode = go (dBit opcode)
+  where
+    go : (t : Bool) (l : List ℕ)
+        → readFrom (rest opcode (cond t (shiftCl size) (shiftOne size))) l
+        ≡ readFrom
+        (aModRM >>= λ m. done (two (shift (m .byte / 8 % 8)) (rm m size) (cond t (register RegisterEncoding.ClCx size) (Operand.Immediate (Immediate.Byte 1)))))
+        l
+    go true l = refl
+    go false l = refl
+
+-- n bytes more before the position
+form-after : (at n : ℕ) (o : Outcome Tail) → formRead (at + n) o ≡ formRead at (after n o)
+form-after at n (got i k) =
+    let count : at + n + k ≡ at + (n + k) = omega arith in
+    rw count
+form-after at n (stopped e k) =
+    let count : at + n + k ≡ at + (n + k) = omega arith in
+    rw count
+
+-- the ModRM at a position is read, and then what K reads behind it; or it is not
+module _ (size : OperandSize) (s : List ℕ) (at : ℕ) (K : Operand → ℕ → Reading Tail) where
+  pub then-behind : {operand : Operand} {next byte : ℕ} {r : FormRead} → OperandRead.Got operand next byte ≡ operandRead size at (readFrom aModRM (drop at s))
+      → r ≡ formRead next (readFrom (K operand byte) (drop next s)) → r ≡ formRead at (readFrom (aModRM >>= λ m. K (rm m size) (m .byte)) (drop at s))
+  then-behind {operand} {next} {byte} {r} = go (readFrom aModRM (drop at s)) refl
+    where
+      go : (o : Outcome ModRM) → o ≡ readFrom aModRM (drop at s) → OperandRead.Got operand next byte ≡ operandRead size at o
+          → r ≡ formRead next (readFrom (K operand byte) (drop next s)) → r ≡ formRead at (readFrom (aModRM >>= λ m. K (rm m size) (m .byte)) (drop at s))
+      go (got m n) q e f =
+          let named : operand ≡ rm m size = cc in
+          let position : next ≡ at + n = cc in
+          let its-byte : byte ≡ m .byte = cc in
+          (rw (named, position, its-byte) at f)
+          ∙ form-after at n (readFrom (K (rm m size) (m .byte)) (drop (at + n) s))
+          ∙ ap (formRead at) (then-at aModRM (λ m. K (rm m size) (m .byte)) s at q refl)
+      go (stopped x n) q e f = cc
+
+  pub stops-before : {e : Refusal} {end : ℕ} → OperandRead.Refused e end ≡ operandRead size at (readFrom aModRM (drop at s))
+      → FormRead.Refused e end ≡ formRead at (readFrom (aModRM >>= λ m. K (rm m size) (m .byte)) (drop at s))
+  stops-before {e} {end} = go (readFrom aModRM (drop at s)) refl
+    where
+      go : (o : Outcome ModRM) → o ≡ readFrom aModRM (drop at s) → OperandRead.Refused e end ≡ operandRead size at o
+          → FormRead.Refused e end ≡ formRead at (readFrom (aModRM >>= λ m. K (rm m size) (m .byte)) (drop at s))
+      go (got m n) q h = cc
+      go (stopped x n) q h =
+          let same-refusal : FormRead.Refused e end ≡ FormRead.Refused x (at + n) = cc in
+          same-refusal ∙ ap (formRead at) (stop-at aModRM (λ m. K (rm m size) (m .byte)) s at q)
+
+-- the register beside it is read nowhere else
+pub register-behind : (direction : Direction) (opcode : ℕ) (op : Operation) (size : OperandSize) (operand : Operand) (byte at : ℕ) (l : List ℕ)
+    → FormRead.Got (registerBehind direction opcode op size operand byte) at ≡ formRead at (readFrom (done (registerBehind direction opcode op size operand byte)) l)
+register-behind direction opcode op size operand byte at l = go (regFirst direction opcode)
+  where
+    reg : Operand
+    reg = register (registerOf (byte / 8 % 8)) size
+
+    go : (t : Bool) → FormRead.Got (cond t (two op reg operand) (two op operand reg)) at ≡ formRead at (readFrom (done (cond t (two op reg operand) (two op operand reg))) l)
+    go true = rw (add-zero at)
+    go false = rw (add-zero at)
+
+-- 8F, 8C and 8E read nothing behind the ModRM, wherever that is
+tested : (t : Bool) (i : Tail) (e : Refusal) (at : ℕ) (l : List ℕ)
+    → formRead at (readFrom (cond t (done i) (refuse e)) []) ≡ formRead at (readFrom (cond t (done i) (refuse e)) l)
+tested true i e at l = refl
+tested false i e at l = refl
+
+pub pop-anywhere : (operand : Operand) (byte at : ℕ) (l : List ℕ) → formRead at (readFrom (popBehind operand byte) []) ≡ formRead at (readFrom (popBehind operand byte) l)
+pop-anywhere operand byte at l = tested (eqb (byte / 8 % 8) 0) _ _ at l
+
+pub segment-anywhere : (opcode : ℕ) (operand : Operand) (byte at : ℕ) (l : List ℕ)
+    → formRead at (readFrom (segmentBehind opcode operand byte) []) ≡ formRead at (readFrom (segmentBehind opcode operand byte) l)
+segment-anywhere opcode operand byte at l = tested (ltb (byte / 8 % 8) 4) _ _ at l
+
+-- what a form with a ModRM reads behind the opcode at a position, as an answer
+module _ (at : ℕ) (o : Outcome Tail) where
+  pub starts-before : {i : Instruction} {end : ℕ} → FormRead.Got i end ≡ formRead (at + 1) o → at ≤ end
+  starts-before {i} {end} = go o
+    where
+      go : (o : Outcome Tail) → FormRead.Got i end ≡ formRead (at + 1) o → at ≤ end
+      go (got j n) e =
+          let position : end ≡ at + 1 + n = cc in
+          omega (arith, position)
+      go (stopped x n) e =
+          let clash : _≡_ {A = ℕ} 0 1 = cc in
+          omega (arith, clash)
+
+  pub stops-after : {x : Refusal} {end : ℕ} → FormRead.Refused x end ≡ formRead (at + 1) o → at ≤ end
+  stops-after {x} {end} = go o
+    where
+      go : (o : Outcome Tail) → FormRead.Refused x end ≡ formRead (at + 1) o → at ≤ end
+      go (got j n) e =
+          let clash : _≡_ {A = ℕ} 0 1 = cc in
+          omega (arith, clash)
+      go (stopped y n) e =
+          let position : end ≡ at + 1 + n = cc in
+          omega (arith, position)
+
+  pub decoded-behind : {i : Instruction} {end : ℕ} → FormRead.Got i end ≡ formRead (at + 1) o → Answer.Decoded i (end - at) 0 ≡ behind o
+  decoded-behind {i} {end} = go o
+    where
+      go : (o : Outcome Tail) → FormRead.Got i end ≡ formRead (at + 1) o → Answer.Decoded i (end - at) 0 ≡ behind o
+      go (got j n) e =
+          let read : i ≡ made j Repeated.None (j .operands) = cc in
+          let position : end ≡ at + 1 + n = cc in
+          let count : at + 1 + n - at ≡ suc n = omega arith in
+          rw (read, position, count)
+      go (stopped x n) e = cc
+
+  pub refused-behind : {x : Refusal} {end : ℕ} → FormRead.Refused x end ≡ formRead (at + 1) o → Answer.Refused x (end - at) 0 ≡ behind o
+  refused-behind {x} {end} = go o
+    where
+      go : (o : Outcome Tail) → FormRead.Refused x end ≡ formRead (at + 1) o → Answer.Refused x (end - at) 0 ≡ behind o
+      go (got j n) e = cc
+      go (stopped y n) e =
+          let read : x ≡ y = cc in
+          let position : end ≡ at + 1 + n = cc in
+          let count : at + 1 + n - at ≡ suc n = omega arith in
+          rw (read, position, count)

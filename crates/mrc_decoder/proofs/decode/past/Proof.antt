@@ -1,0 +1,19 @@
+-- The test says which refusal it is.
+-- Assumes nothing.
+use borrow.Author.Tests.{eq-eqb, ne-eqb}
+use borrow.Author.Needs.{needs}
+use Rattle.mrc_decoder.proofs.decode.past.Statement.{statement}
+use Rattle.mrc_decoder.proofs.decode.past.Tie as tie
+
+returns : tie.Need-returns
+returns c = rw (eq-eqb _ _ (c .if1 .taken))
+
+returns-2 : tie.Need-returns-2
+returns-2 c = rw (ne-eqb _ _ (c .if1 .left))
+
+pub past-spec : {M : Type 1} → statement M
+past-spec =
+    tie.close
+    (tie.spec
+    returns
+    returns-2)

@@ -1,0 +1,139 @@
+-- The ModRM is read, and then, by the form, what its function reads behind it.
+-- Assumes nothing.
+use mathlib.Core.Path.{sym, _∙_}
+use native.Mathlib.Nat.{add-zero}
+use lib.ListN.{drop}
+use Rattle.mrc_decoder.specs.Form.{modRMBehind}
+use Rattle.mrc_decoder.proofs.ModRM.{then-behind, stops-before, register-behind, pop-anywhere, segment-anywhere}
+use borrow.Author.Needs.{needs}
+use Rattle.mrc_decoder.proofs.decode.with_modrm.Statement.{statement}
+use Rattle.mrc_decoder.proofs.decode.with_modrm.Tie as tie
+
+read-operand-requires : tie.Need-read-operand-requires
+read-operand-requires c κs = search needs
+
+enum-known-operand : tie.Need-enum-known-operand
+enum-known-operand c = search needs
+
+enum-told : tie.Need-enum-told
+enum-told c = search needs
+
+pop-requires : tie.Need-pop-requires
+pop-requires c κs = search needs
+
+returns : tie.Need-returns
+returns c = then-behind (c .before .before .before .before .before .before .before .before .args .size) (c .before .before .before .before .before .before .before .before .args .s .now) (c .before .before .before .before .before .before .before .before .args .at) (modRMBehind (c .before .before .before .before .before .before .before .before .args .form) (c .before .before .before .before .before .before .before .before .args .size) (c .before .before .before .before .before .before .before .before .args .opcode)) (sym (c .before .before .before .before .operand .given .1) ∙ c .before .before .before .before .before .before .read-operand .ensures) (rw (c .before .enum-told .given .1) (c .pop .ensures ∙ pop-anywhere (c .before .before .before .before .operand .given .0 .0) (c .before .before .before .before .operand .given .0 .1 .1 .0) (c .before .before .before .before .operand .given .0 .1 .0) (drop (c .before .before .before .before .operand .given .0 .1 .0) (c .before .before .before .before .before .before .before .before .args .s .now))))
+
+enum-told-2 : tie.Need-enum-told-2
+enum-told-2 c = search needs
+
+increment-requires : tie.Need-increment-requires
+increment-requires c κs = search needs
+
+returns-2 : tie.Need-returns-2
+returns-2 c = then-behind (c .before .before .before .before .before .before .before .before .args .size) (c .before .before .before .before .before .before .before .before .args .s .now) (c .before .before .before .before .before .before .before .before .args .at) (modRMBehind (c .before .before .before .before .before .before .before .before .args .form) (c .before .before .before .before .before .before .before .before .args .size) (c .before .before .before .before .before .before .before .before .args .opcode)) (sym (c .before .before .before .before .operand .given .1) ∙ c .before .before .before .before .before .before .read-operand .ensures) (rw (c .before .enum-told2 .given .1, add-zero) (c .increment .ensures))
+
+enum-told-3 : tie.Need-enum-told-3
+enum-told-3 c = search needs
+
+unary-requires : tie.Need-unary-requires
+unary-requires c κs = search needs
+
+returns-3 : tie.Need-returns-3
+returns-3 c = then-behind (c .before .before .before .before .before .before .before .before .args .size) (c .before .before .before .before .before .before .before .before .args .s .now) (c .before .before .before .before .before .before .before .before .args .at) (modRMBehind (c .before .before .before .before .before .before .before .before .args .form) (c .before .before .before .before .before .before .before .before .args .size) (c .before .before .before .before .before .before .before .before .args .opcode)) (sym (c .before .before .before .before .operand .given .1) ∙ c .before .before .before .before .before .before .read-operand .ensures) (rw (c .before .enum-told3 .given .1) (c .unary .ensures))
+
+enum-known-form : tie.Need-enum-known-form
+enum-known-form c = search needs
+
+register-or-memory-and-register-requires : tie.Need-register-or-memory-and-register-requires
+register-or-memory-and-register-requires c κs = search needs
+
+returns-4 : tie.Need-returns-4
+returns-4 c = then-behind (c .before .before .before .before .before .before .before .before .before .args .size) (c .before .before .before .before .before .before .before .before .before .args .s .now) (c .before .before .before .before .before .before .before .before .before .args .at) (modRMBehind (c .before .before .before .before .before .before .before .before .before .args .form) (c .before .before .before .before .before .before .before .before .before .args .size) (c .before .before .before .before .before .before .before .before .before .args .opcode)) (sym (c .before .before .before .before .before .operand .given .1) ∙ c .before .before .before .before .before .before .before .read-operand .ensures) (rw (c .before .before .form .given .1) (c .register-or-memory-and-register .ensures ∙ register-behind (c .before .before .form .given .0 .1 .0) (c .before .before .before .before .before .before .before .before .before .args .opcode) (c .before .before .form .given .0 .0) (c .before .before .before .before .before .before .before .before .before .args .size) (c .before .before .before .before .before .operand .given .0 .0) (c .before .before .before .before .before .operand .given .0 .1 .1 .0) (c .before .before .before .before .before .operand .given .0 .1 .0) (drop (c .before .before .before .before .before .operand .given .0 .1 .0) (c .before .before .before .before .before .before .before .before .before .args .s .now))))
+
+enum-told-4 : tie.Need-enum-told-4
+enum-told-4 c = search needs
+
+register-or-memory-and-segment-requires : tie.Need-register-or-memory-and-segment-requires
+register-or-memory-and-segment-requires c κs = search needs
+
+returns-5 : tie.Need-returns-5
+returns-5 c = then-behind (c .before .before .before .before .before .before .before .before .args .size) (c .before .before .before .before .before .before .before .before .args .s .now) (c .before .before .before .before .before .before .before .before .args .at) (modRMBehind (c .before .before .before .before .before .before .before .before .args .form) (c .before .before .before .before .before .before .before .before .args .size) (c .before .before .before .before .before .before .before .before .args .opcode)) (sym (c .before .before .before .before .operand .given .1) ∙ c .before .before .before .before .before .before .read-operand .ensures) (rw (c .before .enum-told4 .given .1) (c .register-or-memory-and-segment .ensures ∙ segment-anywhere (c .before .before .before .before .before .before .before .before .args .opcode) (c .before .before .before .before .operand .given .0 .0) (c .before .before .before .before .operand .given .0 .1 .1 .0) (c .before .before .before .before .operand .given .0 .1 .0) (drop (c .before .before .before .before .operand .given .0 .1 .0) (c .before .before .before .before .before .before .before .before .args .s .now))))
+
+enum-known-form-2 : tie.Need-enum-known-form-2
+enum-known-form-2 c = search needs
+
+immediate-to-register-or-memory-requires : tie.Need-immediate-to-register-or-memory-requires
+immediate-to-register-or-memory-requires c κs = search needs
+
+returns-6 : tie.Need-returns-6
+returns-6 c = then-behind (c .before .before .before .before .before .before .before .before .before .args .size) (c .before .before .before .before .before .before .before .before .before .args .s .now) (c .before .before .before .before .before .before .before .before .before .args .at) (modRMBehind (c .before .before .before .before .before .before .before .before .before .args .form) (c .before .before .before .before .before .before .before .before .before .args .size) (c .before .before .before .before .before .before .before .before .before .args .opcode)) (sym (c .before .before .before .before .before .operand .given .1) ∙ c .before .before .before .before .before .before .before .read-operand .ensures) (rw (c .before .before .form2 .given .1) (c .immediate-to-register-or-memory .ensures))
+
+enum-told-5 : tie.Need-enum-told-5
+enum-told-5 c = search needs
+
+byte-to-register-or-memory-requires : tie.Need-byte-to-register-or-memory-requires
+byte-to-register-or-memory-requires c κs = search needs
+
+returns-7 : tie.Need-returns-7
+returns-7 c = then-behind (c .before .before .before .before .before .before .before .before .args .size) (c .before .before .before .before .before .before .before .before .args .s .now) (c .before .before .before .before .before .before .before .before .args .at) (modRMBehind (c .before .before .before .before .before .before .before .before .args .form) (c .before .before .before .before .before .before .before .before .args .size) (c .before .before .before .before .before .before .before .before .args .opcode)) (sym (c .before .before .before .before .operand .given .1) ∙ c .before .before .before .before .before .before .read-operand .ensures) (rw (c .before .enum-told5 .given .1) (c .byte-to-register-or-memory .ensures))
+
+enum-told-6 : tie.Need-enum-told-6
+enum-told-6 c = search needs
+
+shift-by-immediate-requires : tie.Need-shift-by-immediate-requires
+shift-by-immediate-requires c κs = search needs
+
+returns-8 : tie.Need-returns-8
+returns-8 c = then-behind (c .before .before .before .before .before .before .before .before .args .size) (c .before .before .before .before .before .before .before .before .args .s .now) (c .before .before .before .before .before .before .before .before .args .at) (modRMBehind (c .before .before .before .before .before .before .before .before .args .form) (c .before .before .before .before .before .before .before .before .args .size) (c .before .before .before .before .before .before .before .before .args .opcode)) (sym (c .before .before .before .before .operand .given .1) ∙ c .before .before .before .before .before .before .read-operand .ensures) (rw (c .before .enum-told6 .given .1) (c .shift-by-immediate .ensures))
+
+enum-told-7 : tie.Need-enum-told-7
+enum-told-7 c = search needs
+
+shift-by-count-requires : tie.Need-shift-by-count-requires
+shift-by-count-requires c κs = search needs
+
+returns-9 : tie.Need-returns-9
+returns-9 c = then-behind (c .before .before .before .before .before .before .before .before .args .size) (c .before .before .before .before .before .before .before .before .args .s .now) (c .before .before .before .before .before .before .before .before .args .at) (modRMBehind (c .before .before .before .before .before .before .before .before .args .form) (c .before .before .before .before .before .before .before .before .args .size) (c .before .before .before .before .before .before .before .before .args .opcode)) (sym (c .before .before .before .before .operand .given .1) ∙ c .before .before .before .before .before .before .read-operand .ensures) (rw (c .before .enum-told7 .given .1, add-zero) (c .shift-by-count .ensures))
+
+enum-known-e : tie.Need-enum-known-e
+enum-known-e c = search needs
+
+returns-10 : tie.Need-returns-10
+returns-10 c = stops-before (c .before .before .before .before .before .args .size) (c .before .before .before .before .before .args .s .now) (c .before .before .before .before .before .args .at) (modRMBehind (c .before .before .before .before .before .args .form) (c .before .before .before .before .before .args .size) (c .before .before .before .before .before .args .opcode)) (sym (c .before .e .given .1) ∙ c .before .before .before .read-operand .ensures)
+
+pub with-modrm-spec : {M : Type 1} → statement M
+with-modrm-spec =
+    tie.close
+    (tie.spec
+    read-operand-requires
+    enum-known-operand
+    enum-told
+    pop-requires
+    returns
+    enum-told-2
+    increment-requires
+    returns-2
+    enum-told-3
+    unary-requires
+    returns-3
+    enum-known-form
+    register-or-memory-and-register-requires
+    returns-4
+    enum-told-4
+    register-or-memory-and-segment-requires
+    returns-5
+    enum-known-form-2
+    immediate-to-register-or-memory-requires
+    returns-6
+    enum-told-5
+    byte-to-register-or-memory-requires
+    returns-7
+    enum-told-6
+    shift-by-immediate-requires
+    returns-8
+    enum-told-7
+    shift-by-count-requires
+    returns-9
+    enum-known-e
+    returns-10)
