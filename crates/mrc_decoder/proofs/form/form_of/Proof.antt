@@ -21,7 +21,7 @@ use Rattle.mrc_decoder.proofs.form.form_of.Tie as tie
 -- the single bytes of the dispatch, the last arm first
 abbrev dispatched : List (List ℕ)
 dispatched =
-    (0xFF ∷ []) ∷ (0xFE ∷ []) ∷ (0xFD ∷ []) ∷ (0xFC ∷ []) ∷ (0xFB ∷ []) ∷ (0xFA ∷ []) ∷ (0xF9 ∷ []) ∷ (0xF8 ∷ []) ∷ (0xF7 ∷ []) ∷ (0xF6 ∷ []) ∷ (0xF5 ∷ []) ∷ (0xF4 ∷ []) ∷ (0xF1 ∷ []) ∷ (0xF0 ∷ []) ∷ (0xEB ∷ []) ∷ (0xEA ∷ []) ∷ (0xE9 ∷ []) ∷ (0xE8 ∷ []) ∷ (0xE3 ∷ []) ∷ (0xE2 ∷ []) ∷ (0xE1 ∷ []) ∷ (0xE0 ∷ []) ∷ (0xD7 ∷ []) ∷ (0xD6 ∷ []) ∷ (0xD5 ∷ []) ∷ (0xD4 ∷ []) ∷ (0xD1 ∷ 0xD3 ∷ []) ∷ (0xD0 ∷ 0xD2 ∷ []) ∷ (0xCF ∷ []) ∷ (0xCE ∷ []) ∷ (0xCD ∷ []) ∷ (0xCC ∷ []) ∷ (0xCA ∷ []) ∷ (0xC7 ∷ []) ∷ (0xC6 ∷ []) ∷ (0xC5 ∷ []) ∷ (0xC4 ∷ []) ∷ (0xC3 ∷ 0xCB ∷ []) ∷ (0xC2 ∷ []) ∷ (0xC1 ∷ []) ∷ (0xC0 ∷ []) ∷ (0xAF ∷ []) ∷ (0xAE ∷ []) ∷ (0xAD ∷ []) ∷ (0xAC ∷ []) ∷ (0xAB ∷ []) ∷ (0xAA ∷ []) ∷ (0xA7 ∷ []) ∷ (0xA6 ∷ []) ∷ (0xA5 ∷ []) ∷ (0xA4 ∷ []) ∷ (0xA1 ∷ 0xA3 ∷ []) ∷ (0xA0 ∷ 0xA2 ∷ []) ∷ (0x9F ∷ []) ∷ (0x9E ∷ []) ∷ (0x9D ∷ []) ∷ (0x9C ∷ []) ∷ (0x9B ∷ []) ∷ (0x9A ∷ []) ∷ (0x99 ∷ []) ∷ (0x98 ∷ []) ∷ (0x90 ∷ []) ∷ (0x8F ∷ []) ∷ (0x8D ∷ []) ∷ (0x8C ∷ 0x8E ∷ []) ∷ (0x89 ∷ 0x8B ∷ []) ∷ (0x88 ∷ 0x8A ∷ []) ∷ (0x87 ∷ []) ∷ (0x86 ∷ []) ∷ (0x85 ∷ []) ∷ (0x84 ∷ []) ∷ (0x83 ∷ []) ∷ (0x81 ∷ []) ∷ (0x80 ∷ 0x82 ∷ []) ∷ (0x59 ∷ 0x5B ∷ 0x5D ∷ 0x5F ∷ []) ∷ (0x58 ∷ 0x5A ∷ 0x5C ∷ 0x5E ∷ []) ∷ (0x51 ∷ 0x53 ∷ 0x55 ∷ 0x57 ∷ []) ∷ (0x50 ∷ 0x52 ∷ 0x54 ∷ 0x56 ∷ []) ∷ (0x49 ∷ 0x4B ∷ 0x4D ∷ 0x4F ∷ []) ∷ (0x48 ∷ 0x4A ∷ 0x4C ∷ 0x4E ∷ []) ∷ (0x41 ∷ 0x43 ∷ 0x45 ∷ 0x47 ∷ []) ∷ (0x40 ∷ 0x42 ∷ 0x44 ∷ 0x46 ∷ []) ∷ (0x3F ∷ []) ∷ (0x37 ∷ []) ∷ (0x2F ∷ []) ∷ (0x27 ∷ []) ∷ (0x26 ∷ 0x2E ∷ 0x36 ∷ 0x3E ∷ []) ∷ (0x07 ∷ 0x0F ∷ 0x17 ∷ 0x1F ∷ []) ∷ (0x06 ∷ 0x0E ∷ 0x16 ∷ 0x1E ∷ []) ∷ []
+    (0xFF ∷ []) ∷ (0xFE ∷ []) ∷ (0xFD ∷ []) ∷ (0xFC ∷ []) ∷ (0xFB ∷ []) ∷ (0xFA ∷ []) ∷ (0xF9 ∷ []) ∷ (0xF8 ∷ []) ∷ (0xF7 ∷ []) ∷ (0xF6 ∷ []) ∷ (0xF5 ∷ []) ∷ (0xF4 ∷ []) ∷ (0xF1 ∷ []) ∷ (0xF0 ∷ []) ∷ (0xEB ∷ []) ∷ (0xEA ∷ []) ∷ (0xE9 ∷ []) ∷ (0xE8 ∷ []) ∷ (0xE3 ∷ []) ∷ (0xE2 ∷ []) ∷ (0xE1 ∷ []) ∷ (0xE0 ∷ []) ∷ (0xD7 ∷ []) ∷ (0xD6 ∷ []) ∷ (0xD5 ∷ []) ∷ (0xD4 ∷ []) ∷ (0xD1 ∷ 0xD3 ∷ []) ∷ (0xD0 ∷ 0xD2 ∷ []) ∷ (0xCF ∷ []) ∷ (0xCE ∷ []) ∷ (0xCD ∷ []) ∷ (0xCC ∷ []) ∷ (0xCA ∷ []) ∷ (0xC7 ∷ []) ∷ (0xC6 ∷ []) ∷ (0xC5 ∷ []) ∷ (0xC4 ∷ []) ∷ (0xC3 ∷ 0xCB ∷ []) ∷ (0xC2 ∷ []) ∷ (0xC1 ∷ []) ∷ (0xC0 ∷ []) ∷ (0xB1 ∷ 0xB3 ∷ 0xB5 ∷ 0xB7 ∷ 0xB9 ∷ 0xBB ∷ 0xBD ∷ 0xBF ∷ []) ∷ (0xB0 ∷ 0xB2 ∷ 0xB4 ∷ 0xB6 ∷ 0xB8 ∷ 0xBA ∷ 0xBC ∷ 0xBE ∷ []) ∷ (0xAF ∷ []) ∷ (0xAE ∷ []) ∷ (0xAD ∷ []) ∷ (0xAC ∷ []) ∷ (0xAB ∷ []) ∷ (0xAA ∷ []) ∷ (0xA7 ∷ []) ∷ (0xA6 ∷ []) ∷ (0xA5 ∷ []) ∷ (0xA4 ∷ []) ∷ (0xA1 ∷ 0xA3 ∷ []) ∷ (0xA0 ∷ 0xA2 ∷ []) ∷ (0x9F ∷ []) ∷ (0x9E ∷ []) ∷ (0x9D ∷ []) ∷ (0x9C ∷ []) ∷ (0x9B ∷ []) ∷ (0x9A ∷ []) ∷ (0x99 ∷ []) ∷ (0x98 ∷ []) ∷ (0x90 ∷ []) ∷ (0x8F ∷ []) ∷ (0x8D ∷ []) ∷ (0x8C ∷ 0x8E ∷ []) ∷ (0x89 ∷ 0x8B ∷ []) ∷ (0x88 ∷ 0x8A ∷ []) ∷ (0x87 ∷ []) ∷ (0x86 ∷ []) ∷ (0x85 ∷ []) ∷ (0x84 ∷ []) ∷ (0x83 ∷ []) ∷ (0x81 ∷ []) ∷ (0x80 ∷ 0x82 ∷ []) ∷ (0x59 ∷ 0x5B ∷ 0x5D ∷ 0x5F ∷ []) ∷ (0x58 ∷ 0x5A ∷ 0x5C ∷ 0x5E ∷ []) ∷ (0x51 ∷ 0x53 ∷ 0x55 ∷ 0x57 ∷ []) ∷ (0x50 ∷ 0x52 ∷ 0x54 ∷ 0x56 ∷ []) ∷ (0x49 ∷ 0x4B ∷ 0x4D ∷ 0x4F ∷ []) ∷ (0x48 ∷ 0x4A ∷ 0x4C ∷ 0x4E ∷ []) ∷ (0x41 ∷ 0x43 ∷ 0x45 ∷ 0x47 ∷ []) ∷ (0x40 ∷ 0x42 ∷ 0x44 ∷ 0x46 ∷ []) ∷ (0x3F ∷ []) ∷ (0x37 ∷ []) ∷ (0x2F ∷ []) ∷ (0x27 ∷ []) ∷ (0x26 ∷ 0x2E ∷ 0x36 ∷ 0x3E ∷ []) ∷ (0x07 ∷ 0x0F ∷ 0x17 ∷ 0x1F ∷ []) ∷ (0x06 ∷ 0x0E ∷ 0x16 ∷ 0x1E ∷ []) ∷ []
 
 group1-requires : tie.Need-group1-requires
 group1-requires c κs = search needs
@@ -223,11 +223,11 @@ returns-48 c = rw (c .match .keys48)
 
 returns-49 : tie.Need-returns-49
 unfolding rowOf rows
-returns-49 c = rw (c .match .keys49)
+returns-49 c = keys (0xB0 ∷ 0xB2 ∷ 0xB4 ∷ 0xB6 ∷ 0xB8 ∷ 0xBA ∷ 0xBC ∷ 0xBE ∷ []) (meant Form.RegisterAndImmediate) (c .before .args .opcode) refl (c .match .keys49)
 
 returns-50 : tie.Need-returns-50
 unfolding rowOf rows
-returns-50 c = rw (c .match .keys50)
+returns-50 c = keys (0xB1 ∷ 0xB3 ∷ 0xB5 ∷ 0xB7 ∷ 0xB9 ∷ 0xBB ∷ 0xBD ∷ 0xBF ∷ []) (meant Form.RegisterAndImmediate) (c .before .args .opcode) refl (c .match .keys50)
 
 returns-51 : tie.Need-returns-51
 unfolding rowOf rows
@@ -235,7 +235,7 @@ returns-51 c = rw (c .match .keys51)
 
 returns-52 : tie.Need-returns-52
 unfolding rowOf rows
-returns-52 c = keys (0xC3 ∷ 0xCB ∷ []) (meant (Form.OpcodeAlone (OpcodeAlone.NoOperand RET))) (c .before .args .opcode) refl (c .match .keys52)
+returns-52 c = rw (c .match .keys52)
 
 returns-53 : tie.Need-returns-53
 unfolding rowOf rows
@@ -243,7 +243,7 @@ returns-53 c = rw (c .match .keys53)
 
 returns-54 : tie.Need-returns-54
 unfolding rowOf rows
-returns-54 c = rw (c .match .keys54)
+returns-54 c = keys (0xC3 ∷ 0xCB ∷ []) (meant (Form.OpcodeAlone (OpcodeAlone.NoOperand RET))) (c .before .args .opcode) refl (c .match .keys54)
 
 returns-55 : tie.Need-returns-55
 unfolding rowOf rows
@@ -275,19 +275,19 @@ returns-61 c = rw (c .match .keys61)
 
 returns-62 : tie.Need-returns-62
 unfolding rowOf rows
-returns-62 c = keys (0xD0 ∷ 0xD2 ∷ []) (meant (Form.WithModRM WithModRM.ShiftByCount Byte)) (c .before .args .opcode) refl (c .match .keys62)
+returns-62 c = rw (c .match .keys62)
 
 returns-63 : tie.Need-returns-63
 unfolding rowOf rows
-returns-63 c = keys (0xD1 ∷ 0xD3 ∷ []) (meant (Form.WithModRM WithModRM.ShiftByCount Word)) (c .before .args .opcode) refl (c .match .keys63)
+returns-63 c = rw (c .match .keys63)
 
 returns-64 : tie.Need-returns-64
 unfolding rowOf rows
-returns-64 c = rw (c .match .keys64)
+returns-64 c = keys (0xD0 ∷ 0xD2 ∷ []) (meant (Form.WithModRM WithModRM.ShiftByCount Byte)) (c .before .args .opcode) refl (c .match .keys64)
 
 returns-65 : tie.Need-returns-65
 unfolding rowOf rows
-returns-65 c = rw (c .match .keys65)
+returns-65 c = keys (0xD1 ∷ 0xD3 ∷ []) (meant (Form.WithModRM WithModRM.ShiftByCount Word)) (c .before .args .opcode) refl (c .match .keys65)
 
 returns-66 : tie.Need-returns-66
 unfolding rowOf rows
@@ -387,55 +387,59 @@ returns-89 c = rw (c .match .keys89)
 
 returns-90 : tie.Need-returns-90
 unfolding rowOf rows
-returns-90 c = c .group1 .ensures ∙ ranged dispatched (λ j. reads (group1Row j)) 0x00 64 (c .before .before .before .before .args .opcode) refl (omega arith) (omega arith) (c .before .before .before .match .rest)
+returns-90 c = rw (c .match .keys90)
 
 returns-91 : tie.Need-returns-91
 unfolding rowOf rows
-returns-91 c = ranged dispatched (meant Form.Invalid) 0x3E 50 (c .before .before .before .before .args .opcode) refl (omega arith) (omega arith) (c .before .before .before .match .rest)
+returns-91 c = rw (c .match .keys91)
 
 returns-92 : tie.Need-returns-92
 unfolding rowOf rows
-returns-92 c = rw (c .jump-operation .ensures) (ranged dispatched (λ j. meant (Form.OnDisplacement (jumpOf (j % 16)) Byte) j) 0x70 16 (c .before .before .before .before .before .before .args .opcode) refl (omega arith) (omega arith) (c .before .before .before .before .before .match .rest))
+returns-92 c = c .group1 .ensures ∙ ranged dispatched (λ j. reads (group1Row j)) 0x00 64 (c .before .before .before .before .args .opcode) refl (omega arith) (omega arith) (c .before .before .before .match .rest)
 
 returns-93 : tie.Need-returns-93
 unfolding rowOf rows
-returns-93 c = ranged dispatched (meant (Form.OpcodeAlone OpcodeAlone.Exchange)) 0x80 24 (c .before .before .before .before .before .before .args .opcode) refl (omega arith) (omega arith) (c .before .before .before .before .before .match .rest)
+returns-93 c = ranged dispatched (meant Form.Invalid) 0x3E 50 (c .before .before .before .before .args .opcode) refl (omega arith) (omega arith) (c .before .before .before .match .rest)
 
 returns-94 : tie.Need-returns-94
 unfolding rowOf rows
-returns-94 c = ranged dispatched (meant (Form.ImmediateToAccumulator TEST)) 0x98 18 (c .before .before .before .before .before .before .before .args .opcode) refl (omega arith) (omega arith) (c .before .before .before .before .before .before .match .rest)
+returns-94 c = rw (c .jump-operation .ensures) (ranged dispatched (λ j. meant (Form.OnDisplacement (jumpOf (j % 16)) Byte) j) 0x70 16 (c .before .before .before .before .before .before .args .opcode) refl (omega arith) (omega arith) (c .before .before .before .before .before .match .rest))
 
 returns-95 : tie.Need-returns-95
 unfolding rowOf rows
-returns-95 c = ranged dispatched (meant Form.RegisterAndImmediate) 0xAA 22 (c .before .before .before .before .before .before .before .before .args .opcode) refl (omega arith) (omega arith) (c .before .before .before .before .before .before .before .match .rest)
+returns-95 c = ranged dispatched (meant (Form.OpcodeAlone OpcodeAlone.Exchange)) 0x80 24 (c .before .before .before .before .before .before .args .opcode) refl (omega arith) (omega arith) (c .before .before .before .before .before .match .rest)
 
 returns-96 : tie.Need-returns-96
 unfolding rowOf rows
-returns-96 c = ranged dispatched (meant Form.Invalid) 0xC0 10 (c .before .before .before .before .before .before .before .before .args .opcode) refl (omega arith) (omega arith) (c .before .before .before .before .before .before .before .match .rest)
+returns-96 c = ranged dispatched (meant (Form.ImmediateToAccumulator TEST)) 0x98 18 (c .before .before .before .before .before .before .before .args .opcode) refl (omega arith) (omega arith) (c .before .before .before .before .before .before .match .rest)
 
 returns-97 : tie.Need-returns-97
 unfolding rowOf rows
-returns-97 c = ranged dispatched (meant Form.Escape) 0xCA 22 (c .before .before .before .args .opcode) refl (omega arith) (omega arith) (c .before .before .match .rest)
+returns-97 c = ranged dispatched (meant Form.Invalid) 0xAA 32 (c .before .before .before .before .before .before .before .args .opcode) refl (omega arith) (omega arith) (c .before .before .before .before .before .before .match .rest)
 
 returns-98 : tie.Need-returns-98
 unfolding rowOf rows
-returns-98 c = ranged dispatched (meant Form.InPort) 0xE0 6 (c .before .before .before .before .args .opcode) refl (omega arith) (omega arith) (c .before .before .before .match .rest)
+returns-98 c = ranged dispatched (meant Form.Escape) 0xCA 22 (c .before .before .before .args .opcode) refl (omega arith) (omega arith) (c .before .before .match .rest)
 
 returns-99 : tie.Need-returns-99
 unfolding rowOf rows
-returns-99 c = ranged dispatched (meant Form.OutPort) 0xE6 2 (c .before .before .before .before .before .args .opcode) refl (omega arith) (omega arith) (c .before .before .before .before .match .rest)
+returns-99 c = ranged dispatched (meant Form.InPort) 0xE0 6 (c .before .before .before .before .args .opcode) refl (omega arith) (omega arith) (c .before .before .before .match .rest)
 
 returns-100 : tie.Need-returns-100
 unfolding rowOf rows
-returns-100 c = ranged dispatched (meant (Form.OpcodeAlone OpcodeAlone.InDx)) 0xE8 6 (c .before .before .before .before .before .before .args .opcode) refl (omega arith) (omega arith) (c .before .before .before .before .before .match .rest)
+returns-100 c = ranged dispatched (meant Form.OutPort) 0xE6 2 (c .before .before .before .before .before .args .opcode) refl (omega arith) (omega arith) (c .before .before .before .before .match .rest)
 
 returns-101 : tie.Need-returns-101
 unfolding rowOf rows
-returns-101 c = ranged dispatched (meant (Form.OpcodeAlone OpcodeAlone.OutDx)) 0xEE 2 (c .before .before .before .before .before .before .before .args .opcode) refl (omega arith) (omega arith) (c .before .before .before .before .before .before .match .rest)
+returns-101 c = ranged dispatched (meant (Form.OpcodeAlone OpcodeAlone.InDx)) 0xE8 6 (c .before .before .before .before .before .before .args .opcode) refl (omega arith) (omega arith) (c .before .before .before .before .before .match .rest)
 
 returns-102 : tie.Need-returns-102
 unfolding rowOf rows
-returns-102 c = ranged dispatched (meant Form.Repeat) 0xF0 16 (c .before .before .before .before .before .before .before .args .opcode) refl (omega arith) (omega arith) (c .before .before .before .before .before .before .match .rest)
+returns-102 c = ranged dispatched (meant (Form.OpcodeAlone OpcodeAlone.OutDx)) 0xEE 2 (c .before .before .before .before .before .before .before .args .opcode) refl (omega arith) (omega arith) (c .before .before .before .before .before .before .match .rest)
+
+returns-103 : tie.Need-returns-103
+unfolding rowOf rows
+returns-103 c = ranged dispatched (meant Form.Repeat) 0xF0 16 (c .before .before .before .before .before .before .before .args .opcode) refl (omega arith) (omega arith) (c .before .before .before .before .before .before .match .rest)
 
 pub form-of-spec : {M : Type 1} → statement M
 form-of-spec =
@@ -544,4 +548,5 @@ form-of-spec =
     returns-99
     returns-100
     returns-101
-    returns-102)
+    returns-102
+    returns-103)

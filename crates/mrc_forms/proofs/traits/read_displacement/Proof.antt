@@ -23,8 +23,14 @@ enum-known-byte c = search needs
 signed-byte-requires : tie.Need-signed-byte-requires
 signed-byte-requires c κs = search needs
 
+returns : tie.Need-returns
+returns c = rw (c .before .before .before .before .before .enum-told .given .1, toZ-ofZ w8 (c .signed-byte .result) (record { sfits = c .signed-byte .ok }), c .signed-byte .ensures) (ap displacementRead (done-at aByte _ (c .before .before .before .before .before .before .before .before .args .s .now) (c .before .before .before .before .before .before .before .before .args .at) (byte-is (sym (c .before .before .byte .given .1) ∙ c .before .before .before .before .read-u8 .ensures)) refl))
+
 enum-known-e : tie.Need-enum-known-e
 enum-known-e c = search needs
+
+returns-2 : tie.Need-returns-2
+returns-2 c = rw (c .before .before .before .before .enum-told .given .1) (ap displacementRead (stop-at aByte _ (c .before .before .before .before .before .before .before .args .s .now) (c .before .before .before .before .before .before .before .args .at) (byte-is (sym (c .before .e .given .1) ∙ c .before .before .before .read-u8 .ensures))))
 
 enum-told-2 : tie.Need-enum-told-2
 enum-told-2 c = search needs
@@ -38,17 +44,11 @@ enum-known-word c = search needs
 signed-word-requires : tie.Need-signed-word-requires
 signed-word-requires c κs = search needs
 
-enum-known-e-2 : tie.Need-enum-known-e-2
-enum-known-e-2 c = search needs
-
-returns : tie.Need-returns
-returns c = rw (c .before .before .before .before .before .enum-told .given .1, toZ-ofZ w8 (c .signed-byte .result) (record { sfits = c .signed-byte .ok }), c .signed-byte .ensures) (ap displacementRead (done-at aByte _ (c .before .before .before .before .before .before .before .before .args .s .now) (c .before .before .before .before .before .before .before .before .args .at) (byte-is (sym (c .before .before .byte .given .1) ∙ c .before .before .before .before .read-u8 .ensures)) refl))
-
-returns-2 : tie.Need-returns-2
-returns-2 c = rw (c .before .before .before .before .enum-told .given .1) (ap displacementRead (stop-at aByte _ (c .before .before .before .before .before .before .before .args .s .now) (c .before .before .before .before .before .before .before .args .at) (byte-is (sym (c .before .e .given .1) ∙ c .before .before .before .read-u8 .ensures))))
-
 returns-3 : tie.Need-returns-3
 returns-3 c = rw (c .before .before .before .before .before .enum-told2 .given .1, toZ-ofZ w16 (c .signed-word .result) (record { sfits = c .signed-word .ok }), c .signed-word .ensures) (ap displacementRead (done-at aWord _ (c .before .before .before .before .before .before .before .before .args .s .now) (c .before .before .before .before .before .before .before .before .args .at) (word-is (sym (c .before .before .word .given .1) ∙ c .before .before .before .before .read-u16 .ensures)) refl))
+
+enum-known-e-2 : tie.Need-enum-known-e-2
+enum-known-e-2 c = search needs
 
 returns-4 : tie.Need-returns-4
 returns-4 c = rw (c .before .before .before .before .enum-told2 .given .1) (ap displacementRead (stop-at aWord _ (c .before .before .before .before .before .before .before .args .s .now) (c .before .before .before .before .before .before .before .args .at) (word-is (sym (c .before .e2 .given .1) ∙ c .before .before .before .read-u16 .ensures))))
@@ -61,13 +61,13 @@ read-displacement-spec =
     read-u8-requires
     enum-known-byte
     signed-byte-requires
+    returns
     enum-known-e
+    returns-2
     enum-told-2
     read-u16-requires
     enum-known-word
     signed-word-requires
-    enum-known-e-2
-    returns
-    returns-2
     returns-3
+    enum-known-e-2
     returns-4)
