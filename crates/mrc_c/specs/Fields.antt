@@ -1,9 +1,5 @@
 -- What the field readers answer as a number: the code, or 65,536 times the refusal's number and its byte. And the size of an operand by its kind.
 use Prim.Native.Nat.{ℕ, _+_, _*_}
-use mathlib.Core.Bool.{cond}
-use mathlib.Core.List.{List, [], _∷_}
-use lib.Dec.{leb}
-use lib.ListN.{getD}
 use Rattle.mrc_instruction.specs.declared.errors.Refusal.{Refusal}
 use Rattle.mrc_instruction.specs.declared.register.RegisterField.{RegisterField}
 use Rattle.mrc_instruction.specs.declared.register.SegmentField.{SegmentField}

@@ -1,7 +1,7 @@
 -- The record of an answer: 20 bytes. 0: the refusal's number, 0 for an instruction. 1: the refusal's byte. 2 and 3: the bytes taken. 4 and 5: the
 -- prefixes. 6: the operation's place. 7: the repeat. 8 to 13: the destination. 14 to 19: the source. Words have their low byte first.
 use Prim.Native.Nat.{ℕ, _/_, _%_}
-use mathlib.Core.List.{List, [], _∷_, _++_}
+use mathlib.Core.List.{List, [], _∷_}
 use Rattle.mrc_instruction.specs.declared.register.Segment.{Segment}
 use Rattle.mrc_instruction.specs.declared.operand.OperandSize.{OperandSize}
 use Rattle.mrc_instruction.specs.declared.operand.AddressingMode.{AddressingMode}

@@ -1,7 +1,7 @@
 -- An arm of the dispatch: its form says what each of its bytes means, which antt computes over the arm's keys, or over its range less the keys
 -- of the other arms.
 -- Assumes nothing.
-use mathlib.Core.Path.{_≡_, refl, ap, _∙_}
+use mathlib.Core.Path.{_≡_, refl}
 use mathlib.Core.Logic.{⊎-elim}
 use mathlib.Core.Bool.{Bool, true, false, cond, _||_}
 use mathlib.Core.List.{List, [], _∷_, map}

@@ -5,12 +5,10 @@ use mathlib.Core.Logic.{⊎-elim}
 use mathlib.Core.Bool.{Bool, true, false, cond, _||_}
 use mathlib.Core.List.{List, [], _∷_}
 use mathlib.Core.Option.{some}
-use Prim.Native.Nat.{ℕ, zero, suc, _+_, _-_, _/_, _%_, _^_, _≤_, _<_}
+use Prim.Native.Nat.{ℕ, suc, _+_, _-_, _^_, _≤_, _<_}
 use native.Mathlib.Nat.{eq-or-lt-of-le}
 use native.Mathlib.Omega.{arith}
-use native.Mathlib.Numerals.{add-one}
-use lib.ListN.{length, getD, drop, length-drop, drop-of-length-le}
-use lib.Seq.{drop-cons}
+use lib.ListN.{length, getD, drop, length-drop}
 use borrow.Author.Tests.{le-leb, lt-leb, eq-eqb, ne-eqb}
 use Rattle.mrc_instruction.specs.declared.errors.Refusal.{Refusal}
 use Rattle.mrc_instruction.specs.declared.operand.OperandSize.{OperandSize}
@@ -18,14 +16,13 @@ use Rattle.mrc_rules.specs.declared.Answer.{Answer}
 use Rattle.mrc_decoder.specs.declared.form.OpcodeAlone.{OpcodeAlone}
 use Rattle.mrc_decoder.specs.declared.form.WithModRM.{WithModRM}
 use Rattle.mrc_decoder.specs.Form.{Meaning, overrides, repeats, reads, nothing, meaningOf, aloneRow, modRMMeant, modRMReading}
-use Rattle.mrc_instruction.specs.Reading.{more, readFrom}
+use Rattle.mrc_instruction.specs.Reading.{readFrom}
 use Rattle.mrc_instruction.proofs.Rest.{here, none}
-use Rattle.mrc_rules.specs.Answer.{taken, prefixes}
 use Rattle.mrc_rules.specs.Forms.{Row}
 use Rattle.mrc_rules.specs.Table.{rowOf}
 use Rattle.mrc_rules.specs.Prefixes.{isOverride, isRepeat, isPrefix, repeatOf}
-use Rattle.mrc_rules.specs.Decode.{tail, decodeBy, decodeAt, rules}
-use Rattle.mrc_forms.specs.Behind.{alone, behind, readBy}
+use Rattle.mrc_rules.specs.Decode.{decodeBy, decodeAt, rules}
+use Rattle.mrc_forms.specs.Behind.{behind, readBy}
 use Rattle.mrc_decoder.specs.Wrap.{Small, underOverride, withRepeat, tooMany, pastEnd}
 use Rattle.mrc_decoder.proofs.ModRM.{Agrees, modrm-agrees}
 use Rattle.mrc_decoder.proofs.Steps.{step-end, step-tail, step-over, override-prefix, repeat-prefix}

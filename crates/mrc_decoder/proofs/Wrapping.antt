@@ -1,7 +1,7 @@
 -- The rules can be decoded by wrapping: what Steps asks of a set of rules holds of them, whatever the opcode table.
 -- Assumes nothing.
 use mathlib.Core.Path.{_≡_, refl, ap, ap₂}
-use mathlib.Core.List.{List, [], _∷_}
+use mathlib.Core.List.{List, _∷_}
 use mathlib.Core.Option.{some}
 use mathlib.Core.Bool.{true}
 use Prim.Native.Nat.{ℕ, zero, suc, _/_, _%_}

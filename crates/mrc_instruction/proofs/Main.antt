@@ -2,7 +2,7 @@
 -- Assumes nothing.
 use mathlib.Core.Path.{_≡_, refl}
 use mathlib.Core.List.{List, map, [], _∷_}
-use Prim.Native.Nat.{ℕ, _-_, _/_, _%_, _≤_, _<_}
+use Prim.Native.Nat.{ℕ, _-_, _/_, _%_, _<_}
 use lib.IntN.{ℤ, negsuc}
 use lib.ListN.{length, drop}
 use borrow.Author.Tests.{lt-leb}
@@ -31,8 +31,8 @@ use Rattle.mrc_instruction.specs.Register.{registers, registerOf, regist
 use Rattle.mrc_instruction.specs.Operand.{addressing, addressingOf, addressingField, sizeOf}
 use Rattle.mrc_instruction.specs.Instruction.{plain}
 use Rattle.mrc_instruction.specs.Signed.{signedByte, signedWord}
-use Rattle.mrc_instruction.specs.Reading.{Outcome, stopped, readFrom, readAt, aByte, aWord}
-use Rattle.mrc_instruction.specs.Mrrm.{ModRM, aModRM, registerOrMemory, operandOf}
+use Rattle.mrc_instruction.specs.Reading.{stopped, readFrom, readAt, aByte, aWord}
+use Rattle.mrc_instruction.specs.Mrrm.{aModRM, registerOrMemory, operandOf}
 use Rattle.mrc_instruction.specs.Read.{byteRead, wordRead, registerOrMemoryRead, mrrmRead, operandRead}
 use Rattle.mrc_instruction.proofs.Unique.{exactly-one}
 use Rattle.mrc_instruction.proofs.Ends.{Ended, ends, takes-byte, takes-word, takes-modrm}

@@ -22,6 +22,7 @@ pub enum Repeated {
     Some(Repeat),
 }
 
+// The repeat stands first: in an answer each operand then begins a machine word.
 pub struct Instruction {
     pub repeat: Repeated,
     pub operation: Operation,

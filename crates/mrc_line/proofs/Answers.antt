@@ -10,7 +10,6 @@ use lib.Dec.{ltb, eqb}
 use lib.ListN.{length, drop, take-append-drop}
 use Rattle.mrc_instruction.specs.declared.errors.Refusal.{Refusal}
 use Rattle.mrc_instruction.specs.declared.errors.Refusal.the-variants.{ImageTooLong, OutsideInput, EndOfInput, NoRoom}
-use Rattle.mrc_line.specs.declared.line.LineAnswer.{LineAnswer}
 use Rattle.mrc_line.specs.declared.line.LineAnswer.the-variants.{Line, Refused}
 use Rattle.mrc_line.specs.Text.{Put}
 use Rattle.mrc_line.specs.Target.{offsets}

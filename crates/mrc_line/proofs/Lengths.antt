@@ -2,7 +2,7 @@
 -- Assumes nothing.
 use mathlib.Core.Path.{_≡_, refl}
 use mathlib.Core.List.{List, [], _∷_, _++_}
-use Prim.Native.Nat.{ℕ, _+_, _*_, _-_, _≤_}
+use Prim.Native.Nat.{ℕ, _+_, _-_, _≤_}
 use native.Mathlib.Omega.{arith}
 use lib.Dec.{lit≤}
 use lib.ListN.{length, take, getD, drop, replicate, length-append, length-take, length-replicate}
@@ -20,14 +20,13 @@ use Rattle.mrc_instruction.specs.declared.operand.Operand.{Operand}
 use Rattle.mrc_instruction.specs.declared.instruction.OperandSet.{OperandSet}
 use Rattle.mrc_instruction.specs.declared.instruction.Repeat.{Repeat}
 use Rattle.mrc_instruction.specs.declared.instruction.Repeated.{Repeated}
-use Rattle.mrc_instruction.specs.declared.instruction.Instruction.{Instruction}
 use Rattle.mrc_names.specs.Names.{nameOf}
 use Rattle.mrc_names.proofs.Rows.{short}
 use Rattle.mrc_rules.specs.declared.Answer.{Answer}
 use Rattle.mrc_rules.specs.Decode.{decodeAt}
 use Rattle.mrc_line.specs.Text.{bytes, hex4, pairs, padded, shown, fieldWidth}
 use Rattle.mrc_line.specs.Target.{targetOf}
-use Rattle.mrc_line.specs.Operands.{registerText, segmentText, modeText, sizeText, displacementText, immediateText, memoryText, operandText, aloneText, besideText, operandsText}
+use Rattle.mrc_line.specs.Operands.{registerText, segmentText, modeText, sizeText, displacementText, immediateText, memoryText, operandText, besideText, operandsText}
 use Rattle.mrc_line.specs.Line.{headText, repeatText, instructionText, bodyText, stepTaken, stepText, lineText, longest, budget}
 use Rattle.mrc_line.proofs.Put.{pairs-length}
 

@@ -15,7 +15,7 @@ use Rattle.mrc_line.specs.Target.{offsets}
 use Rattle.mrc_line.specs.Line.{lineText, lineTaken, answerOf, after, Listed, longest}
 use Rattle.mrc_line.specs.Page.{linesFrom, textOf, takenOf, fitting, pageOf, Paged}
 use Rattle.mrc_line.proofs.Put.{then, none}
-use Rattle.mrc_line.proofs.Takes.{Takes, line-takes}
+use Rattle.mrc_line.proofs.Takes.{line-takes}
 use Rattle.mrc_line.proofs.Lines.{lines-more, lines-past, enough}
 use Rattle.mrc_line.proofs.Pages.{fits, stops, page-is, page-none, moves}
 use Rattle.mrc_line.proofs.Lengths.{line-longest}

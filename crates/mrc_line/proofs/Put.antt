@@ -6,7 +6,7 @@ use Prim.Native.Nat.{ℕ, zero, suc, _+_, _-_, _*_, _<_, _≤_, min}
 use native.Mathlib.Numerals.{add-one}
 use native.Mathlib.Omega.{arith}
 use lib.ListN.{length, take, drop, set, replicate, length-append, length-set, length-drop, take-append-drop}
-use lib.Seq.{take-suc-set, drop-set-lt, drop-drop, drop-nil, take-add, take-at, drop-at, drop-append-le, length-take-le}
+use lib.Seq.{take-suc-set, drop-set-lt, drop-drop, take-add, take-at, drop-at, drop-append-le, length-take-le}
 use Rattle.mrc_line.specs.Text.{Put, pairs, padded, hex2}
 
 -- what stands beyond m is the same, so what stands beyond a later r is

@@ -3,9 +3,9 @@
 use mathlib.Core.Path.{_≡_, refl, sym, ap, _∙_}
 use mathlib.Core.Bool.{Bool, true, false, cond}
 use mathlib.Core.List.{List, [], _∷_, _++_}
-use Prim.Native.Nat.{ℕ, _+_, _-_, _<_, _≤_}
+use Prim.Native.Nat.{ℕ, _+_, _-_, _≤_}
 use native.Mathlib.Omega.{arith}
-use borrow.Author.Tests.{leb-true, ltb-true, ltb-false}
+use borrow.Author.Tests.{leb-true}
 use lib.Dec.{leb, ltb}
 use lib.ListN.{length, drop, length-append}
 use Rattle.mrc_instruction.specs.declared.errors.Refusal.{Refusal}
@@ -13,7 +13,7 @@ use Rattle.mrc_instruction.specs.Promise.{ExactlyOne}
 use Rattle.mrc_line.specs.declared.line.LineAnswer.{LineAnswer}
 use Rattle.mrc_line.specs.declared.page.Page.{Page}
 use Rattle.mrc_line.specs.Target.{offsets}
-use Rattle.mrc_line.specs.Line.{lineText, answerOf, after, Listed, longest}
+use Rattle.mrc_line.specs.Line.{lineText, answerOf, after, Listed}
 use Rattle.mrc_line.specs.Page.{linesFrom, textOf, takenOf, fitting, pageOf, Paged}
 use Rattle.mrc_line.proofs.Paging.{page-moves}
 

@@ -2,7 +2,7 @@
 -- an offset up or down.
 -- Assumes nothing.
 use Prim.Native.Nat.{ℕ, suc, _+_, _-_, _%_, _<_, _^_}
-use mathlib.Core.Path.{_≡_, refl, _∙_}
+use mathlib.Core.Path.{_≡_, refl}
 use mathlib.Core.Bool.{true, false}
 use native.Mathlib.Omega.{arith}
 use borrow.Author.Needs.{sfits-of}
@@ -10,7 +10,7 @@ use borrow.Author.Tests.{ltb-true}
 use lib.Dec.{T}
 use lib.IntN.{ℤ, pos, negsuc, natAbs, _-ℤ_}
 use lib.Signed.{ltZ, nonNeg}
-use mir.Syntax.{Width, w8, w16, w32}
+use mir.Syntax.{w8, w16, w32}
 use mir.Val.{toZ, ofZ, SFits, Fits}
 use mir.Facts.{toZ-ofZ, sfits-widen}
 use Rattle.mrc_line.specs.Target.{movedBy, offsets}

@@ -1,7 +1,7 @@
 -- A line takes a byte at least, and none beyond the image: a decode takes no more than is left, and a success by the length rule at most six
 -- bytes after its prefixes, of which the budget allows fifteen.
 -- Assumes nothing.
-use mathlib.Core.Path.{_≡_, refl, sym, ap, _∙_}
+use mathlib.Core.Path.{_≡_, refl, ap}
 use mathlib.Core.List.{List}
 use Prim.Native.Nat.{ℕ, _+_, _-_, _<_, _≤_}
 use native.Mathlib.Omega.{arith}

@@ -1,6 +1,5 @@
 -- "'rm,reg' means destination, source": an instruction with its two operands exchanged.
 use Rattle.mrc_instruction.specs.declared.instruction.OperandSet.{OperandSet}
-use Rattle.mrc_instruction.specs.Instruction.{plain}
 use Rattle.mrc_instruction.specs.Reading.{Outcome, got, stopped}
 use Rattle.mrc_rules.specs.Forms.{Tail}
 

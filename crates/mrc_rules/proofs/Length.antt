@@ -1,24 +1,21 @@
 -- The length rule: an answer takes at most six bytes after its prefixes, and a success at least one. Each form asks for at most five bytes
 -- after the opcode.
 -- Assumes nothing.
-use mathlib.Core.Path.{_≡_, refl, sym, subst}
+use mathlib.Core.Path.{_≡_, subst}
 use mathlib.Core.Bool.{Bool, true, false, cond}
-use mathlib.Core.List.{List, [], _∷_, _++_}
+use mathlib.Core.List.{List, [], _∷_}
 use Prim.Native.Nat.{ℕ, zero, suc, _+_, _/_, _%_, _≤_}
 use native.Mathlib.Omega.{arith}
-use lib.ListN.{length, drop, getD}
+use lib.ListN.{length, getD}
 use lib.Dec.{eqb, ltb, leb}
 use Rattle.mrc_instruction.specs.declared.operand.OperandSize.the-variants.{Byte, Word}
 use Rattle.mrc_instruction.specs.declared.operand.OperandSize.{OperandSize}
 use Rattle.mrc_instruction.specs.declared.operand.Immediate.{Immediate}
-use Rattle.mrc_instruction.specs.declared.operand.Displacement.{Displacement}
 use Rattle.mrc_instruction.specs.declared.operand.Operand.{Operand}
 use Rattle.mrc_instruction.specs.declared.instruction.Instruction.{Instruction}
-use Rattle.mrc_instruction.specs.declared.mrrm.RegisterOrMemory.{RegisterOrMemory}
 use Rattle.mrc_instruction.specs.declared.errors.Refusal.{Refusal}
-use Rattle.mrc_instruction.specs.Reading.{Reading, done, refuse, next, _>>=_, aByte, aWord, takenBy, readFrom}
+use Rattle.mrc_instruction.specs.Reading.{Reading, _>>=_, aByte, aWord, takenBy, readFrom}
 use Rattle.mrc_instruction.specs.Mrrm.{ModRM, registerOrMemory, aModRM, regField}
-use Rattle.mrc_instruction.specs.Operand.{addressingOf}
 use Rattle.mrc_instruction.proofs.Then.{taken-more}
 use Rattle.mrc_rules.specs.declared.Answer.{Answer}
 use Rattle.mrc_rules.specs.Answer.{taken, prefixes}
@@ -27,7 +24,6 @@ use Rattle.mrc_rules.specs.Table.{rowOf}
 use Rattle.mrc_rules.specs.Prefixes.{runOf, tailOf}
 use Rattle.mrc_rules.specs.Decode.{Rules, tail, together, decodeBy, decodeAtBy, decodeAt, rules}
 use Rattle.mrc_rules.proofs.Trees.{Got, Within, within-if, within-bind, within-taken}
-use Rattle.mrc_rules.proofs.Runs.{run-all, tail-none, run-tail}
 use Rattle.mrc_rules.proofs.Answers.{Success, taken-together, prefixes-together, got-together, success-is, at-position}
 
 -- how many bytes each field asks for

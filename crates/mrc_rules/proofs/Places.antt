@@ -16,7 +16,7 @@ use Rattle.mrc_instruction.specs.declared.operand.Operand.{Operand}
 use Rattle.mrc_instruction.specs.declared.instruction.OperandSet.{OperandSet}
 use Rattle.mrc_instruction.specs.declared.operation.Operation.{Operation}
 use Rattle.mrc_instruction.specs.declared.mrrm.RegisterOrMemory.{RegisterOrMemory}
-use Rattle.mrc_instruction.specs.Reading.{Reading, done, _>>=_, more, aByte, aWord}
+use Rattle.mrc_instruction.specs.Reading.{Reading, done, _>>=_, aByte, aWord}
 use Rattle.mrc_instruction.specs.Signed.{signedByte, signedWord}
 use Rattle.mrc_instruction.specs.Register.{segmentOf}
 use Rattle.mrc_instruction.specs.Operand.{addressingOf}

@@ -15,10 +15,9 @@ use Rattle.mrc_instruction.specs.declared.operation.Operation.the-variants.{MOV
 use Rattle.mrc_instruction.specs.Reading.{aByte, aWord}
 use Rattle.mrc_instruction.specs.Mrrm.{ModRM, modRM, regField}
 use Rattle.mrc_rules.specs.Forms.{Row, rest, register, acc, aDisplacement, reg, arithmetic, shift, bare, prefix, invalid, rmReg, regRm, accImmediate, onSegment, onRegister, jump, groupImmediate, groupByteToWord, popRm, rmSegment, segmentRm, exchange, far, accDirect, directAcc, registerImmediate, shiftImmediate, shiftOne, shiftCl, onImmediate, moveImmediate, escape, inPort, outPort, inDx, outDx, unary, incDec}
-use Rattle.mrc_rules.specs.Table.{rows}
-use Rattle.mrc_rules.specs.Operands.{RM, REG, SEGREG, IMMED, ZERO16, MEM, REL, FAR, THE, SEG, ONE, AX, DX, Places, nothing, only, _⟵_, test, places}
+use Rattle.mrc_rules.specs.Operands.{RM, REG, SEGREG, IMMED, ZERO16, MEM, REL, FAR, THE, SEG, ONE, AX, DX, Places, nothing, only, _⟵_, test}
 use Rattle.mrc_rules.proofs.Along.{Along, along-bind, along-cond}
-use Rattle.mrc_rules.proofs.Places.{Says, Placed, Nowhere, by-segment, displacement-along, after-modrm, after-immediate, modrm-immediate, modrm-widened, modrm-two, unary-along}
+use Rattle.mrc_rules.proofs.Places.{Placed, Nowhere, by-segment, displacement-along, after-modrm, after-immediate, modrm-immediate, modrm-widened, modrm-two, unary-along}
 
 -- the places of a form
 abbrev pub placesOf : Row → Places

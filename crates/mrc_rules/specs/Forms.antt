@@ -17,7 +17,7 @@ use Rattle.mrc_instruction.specs.declared.instruction.OperandSet.{OperandSet}
 use Rattle.mrc_instruction.specs.declared.instruction.Instruction.{Instruction}
 use Rattle.mrc_instruction.specs.declared.operation.Operation.{Operation}
 use Rattle.mrc_instruction.specs.declared.operation.Operation.the-variants.{ADC, ADD, AND, CALL, CMP, DEC, DIV, ESC, IDIV, IMUL, IN, INC, JMP, MOV, MUL, NEG, NOT, OR, OUT, POP, PUSH, RCL, RCR, ROL, ROR, SAR, SBB, SHL, SHR, SUB, TEST, XCHG, XOR}
-use Rattle.mrc_instruction.specs.Register.{registerOf, segmentOf}
+use Rattle.mrc_instruction.specs.Register.{segmentOf}
 use Rattle.mrc_instruction.specs.Signed.{signedByte, signedWord}
 use Rattle.mrc_instruction.specs.Reading.{Reading, done, refuse, _>>=_, aByte, aWord}
 use Rattle.mrc_instruction.specs.Mrrm.{ModRM, regField, aModRM, operandOf}

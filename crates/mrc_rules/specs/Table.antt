@@ -7,7 +7,7 @@ use Rattle.mrc_instruction.specs.declared.register.RegisterEncoding.{RegisterEn
 use Rattle.mrc_instruction.specs.declared.register.RegisterEncoding.the-variants.{ClCx, DlDx, BlBx, AhSp, ChBp, DhSi, BhDi}
 use Rattle.mrc_instruction.specs.declared.operand.OperandSize.the-variants.{Byte, Word}
 use Rattle.mrc_instruction.specs.declared.operation.Operation.{Operation}
-use Rattle.mrc_instruction.specs.declared.operation.Operation.the-variants.{AAA, AAD, AAM, AAS, ADC, ADD, AND, CALL, CBW, CLC, CLD, CLI, CMC, CMP, CMPSB, CMPSW, CWD, DAA, DAS, DEC, DIV, ESC, HLT, IDIV, IMUL, IN, INC, INT, INT1, INT3, INTO, IRET, JB, JBE, JCXZ, JE, JL, JLE, JMP, JNB, JNBE, JNE, JNL, JNLE, JNO, JNP, JNS, JO, JP, JS, LAHF, LDS, LEA, LES, LOCK, LODSB, LODSW, LOOP, LOOPNZ, LOOPZ, MOV, MOVSB, MOVSW, MUL, NEG, NOP, NOT, OR, OUT, POP, POPF, PUSH, PUSHF, RCL, RCR, RET, ROL, ROR, SAHF, SALC, SAR, SBB, SCASB, SCASW, SHL, SHR, STC, STD, STI, STOSB, STOSW, SUB, TEST, WAIT, XCHG, XLATB, XOR}
+use Rattle.mrc_instruction.specs.declared.operation.Operation.the-variants.{AAA, AAD, AAM, AAS, ADC, ADD, AND, CALL, CBW, CLC, CLD, CLI, CMC, CMP, CMPSB, CMPSW, CWD, DAA, DAS, DEC, HLT, INC, INT, INT1, INT3, INTO, IRET, JB, JBE, JCXZ, JE, JL, JLE, JMP, JNB, JNBE, JNE, JNL, JNLE, JNO, JNP, JNS, JO, JP, JS, LAHF, LDS, LEA, LES, LOCK, LODSB, LODSW, LOOP, LOOPNZ, LOOPZ, MOV, MOVSB, MOVSW, NOP, OR, POP, POPF, PUSH, PUSHF, RET, SAHF, SALC, SBB, SCASB, SCASW, STC, STD, STI, STOSB, STOSW, SUB, TEST, WAIT, XCHG, XLATB, XOR}
 use Rattle.mrc_instruction.specs.Register.{registers}
 use Rattle.mrc_rules.specs.Forms.{Row, bare, prefix, invalid, rmReg, regRm, accImmediate, onSegment, onRegister, jump, groupImmediate, groupByteToWord, popRm, rmSegment, segmentRm, exchange, far, accDirect, directAcc, registerImmediate, shiftImmediate, shiftOne, shiftCl, onImmediate, moveImmediate, escape, inPort, outPort, inDx, outDx, unary, incDec}
 

@@ -5,7 +5,6 @@ use Prim.Native.Nat.{_-_}
 use native.Mathlib.Omega.{arith}
 use lib.ListN.{length}
 use lib.Seq.{length-take-le}
-use borrow.Author.Needs.{needs}
 use Rattle.mrc_list.proofs.write_pages.Statement.{statement}
 use Rattle.mrc_list.proofs.write_pages.Tie as tie
 

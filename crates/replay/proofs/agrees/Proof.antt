@@ -1,7 +1,6 @@
 -- Places stay below 400,600, and an input has at most as many bytes as its buffer.
 -- Assumes nothing.
 use mathlib.Core.Path.{sym}
-use native.Mathlib.Omega.{arith}
 use lib.Seq.{length-take-le}
 use borrow.Author.Needs.{needs}
 use Rattle.replay.proofs.agrees.Statement.{statement}

@@ -1,9 +1,8 @@
 -- The place is between the start and the length.
 -- Assumes nothing.
-use Prim.Native.Nat.{_≤_, _-_, _+_, _*_}
+use Prim.Native.Nat.{_≤_, _-_}
 use native.Mathlib.Omega.{arith}
 use lib.ListN.{length}
-use borrow.Author.Needs.{needs}
 use Rattle.replay.proofs.line_end.Statement.{statement}
 use Rattle.replay.proofs.line_end.Tie as tie
 

@@ -1,9 +1,7 @@
 -- The place is at most 20.
 -- Assumes nothing.
-use Prim.Native.Nat.{_≤_, _-_, _+_, _*_}
+use Prim.Native.Nat.{_≤_, _-_}
 use native.Mathlib.Omega.{arith}
-use lib.ListN.{length}
-use borrow.Author.Needs.{needs}
 use Rattle.replay.proofs.same_record.Statement.{statement}
 use Rattle.replay.proofs.same_record.Tie as tie
 

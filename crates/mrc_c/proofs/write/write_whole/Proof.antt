@@ -1,12 +1,12 @@
 -- Where the bytes have room, the loop has put those that it passed; else nothing is written.
 -- Assumes nothing.
-use mathlib.Core.Path.{_≡_, refl, sym, ap, _∙_}
+use mathlib.Core.Path.{_≡_, refl, ap, _∙_}
 use mathlib.Core.List.{[], _∷_, _++_}
 use Prim.Native.Nat.{ℕ, _+_, _-_, _≤_}
 use native.Mathlib.Numerals.{add-one}
 use native.Mathlib.Omega.{arith}
 use native.Mathlib.Nat.{le-antisymm}
-use borrow.Author.Tests.{lt-leb, le-leb}
+use borrow.Author.Tests.{lt-leb}
 use lib.ListN.{length, take, getD, length-set}
 use lib.Seq.{take-suc, take-length}
 use Rattle.mrc_line.specs.Text.{Put}

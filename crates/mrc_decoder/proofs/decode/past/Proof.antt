@@ -1,7 +1,6 @@
 -- The test says which refusal it is.
 -- Assumes nothing.
 use borrow.Author.Tests.{eq-eqb, ne-eqb}
-use borrow.Author.Needs.{needs}
 use Rattle.mrc_decoder.proofs.decode.past.Statement.{statement}
 use Rattle.mrc_decoder.proofs.decode.past.Tie as tie
 

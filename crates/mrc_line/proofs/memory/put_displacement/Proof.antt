@@ -1,6 +1,6 @@
 -- The displacement's bits read back as its number, whose sign and magnitude are put.
 -- Assumes nothing.
-use mathlib.Core.Path.{_≡_, ap, sym, _∙_}
+use mathlib.Core.Path.{ap, sym, _∙_}
 use mathlib.Core.List.{_∷_}
 use lib.IntN.{natAbs}
 use mir.Syntax.{w8, w16}

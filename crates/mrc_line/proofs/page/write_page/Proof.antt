@@ -5,7 +5,7 @@ use Prim.Native.Nat.{_-_}
 use native.Mathlib.Omega.{arith}
 use lib.ListN.{length}
 use borrow.Author.Needs.{needs}
-use Rattle.mrc_line.proofs.Takes.{Takes, line-takes}
+use Rattle.mrc_line.proofs.Takes.{line-takes}
 use Rattle.mrc_line.proofs.Answers.{Told}
 use Rattle.mrc_line.proofs.Paging.{Paging, begins, tells, goes-on, as-it-was, ends-past, ends-refused, page-too-long}
 use Rattle.mrc_line.proofs.page.write_page.Statement.{statement}

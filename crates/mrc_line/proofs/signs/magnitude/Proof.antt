@@ -1,8 +1,8 @@
 -- Below 0 the magnitude is 0 less the number, worked out at 32 bits; else the number itself.
 -- Assumes nothing.
-use mathlib.Core.Path.{ap, sym, _∙_}
+use mathlib.Core.Path.{ap}
 use lib.IntN.{natAbs}
-use Rattle.mrc_line.proofs.Signed.{Below, Above, below, above, word-widens, word-wide}
+use Rattle.mrc_line.proofs.Signed.{below, above, word-widens, word-wide}
 use Rattle.mrc_line.proofs.signs.magnitude.Statement.{statement}
 use Rattle.mrc_line.proofs.signs.magnitude.Tie as tie
 

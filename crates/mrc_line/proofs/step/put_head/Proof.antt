@@ -1,10 +1,10 @@
 -- Five pieces in a row, and the bytes that are shown are the first seven.
 -- Assumes nothing.
-use mathlib.Core.Path.{_≡_, ap, sym, _∙_}
+use mathlib.Core.Path.{ap}
 use mathlib.Core.List.{List, _++_}
 use Prim.Native.Nat.{ℕ}
 use native.Mathlib.Omega.{arith}
-use lib.ListN.{length, take, length-take}
+use lib.ListN.{length-take}
 use Rattle.mrc_line.specs.Text.{bytes, hex4, pairs, padded, shown, fieldWidth}
 use Rattle.mrc_line.specs.Line.{headText}
 use Rattle.mrc_line.proofs.Put.{then, same, first}

@@ -6,7 +6,7 @@ use lib.ListN.{length, take}
 use lib.Seq.{length-take-le}
 use Rattle.mrc_instruction.specs.declared.errors.Refusal.{Refusal}
 use Rattle.mrc_line.proofs.Put.{same}
-use Rattle.mrc_line.proofs.Takes.{Takes, takes, text-is, taken-is}
+use Rattle.mrc_line.proofs.Takes.{takes, text-is, taken-is}
 use Rattle.mrc_line.proofs.Lengths.{line-longest}
 use Rattle.mrc_line.proofs.Answers.{refused, no-room, written}
 use borrow.Author.Needs.{needs}
