@@ -4,6 +4,7 @@ use Prim.Native.Nat.{ℕ, _+_, min}
 use mathlib.Core.Path.{_≡_, refl, ap, _∙_}
 use mathlib.Core.List.{List}
 use lib.ListN.{length, getD, drop}
+use Rattle.mrc_instruction.specs.declared.operand.OperandSize.{OperandSize}
 use Rattle.mrc_instruction.specs.Promise.{ExactlyOne}
 use Rattle.mrc_instruction.proofs.Unique.{exactly-one}
 use Rattle.mrc_rules.specs.declared.Answer.{Answer}
@@ -12,7 +13,10 @@ use Rattle.mrc_rules.specs.Table.{rowOf}
 use Rattle.mrc_rules.specs.Prefixes.{runOf}
 use Rattle.mrc_rules.specs.Decode.{decodeAt, rules}
 use Rattle.mrc_rules.proofs.Counting.{prefix-count}
+use Rattle.mrc_decoder.specs.declared.form.WithModRM.{WithModRM}
 use Rattle.mrc_decoder.specs.Codes.{codeOf}
+use Rattle.mrc_decoder.specs.Form.{modRMMeant, modRMReading}
+use Rattle.mrc_decoder.proofs.ModRM.{Agrees, modrm-agrees}
 use Rattle.mrc_decoder.proofs.Steps.{Wraps}
 use Rattle.mrc_decoder.proofs.Wrapping.{wraps}
 use Rattle.mrc_decoder.proofs.Whole.{numbers, row-is}
@@ -29,6 +33,10 @@ prefixes-settled s at budget r e = ap prefixes e ∙ prefix-count s at budget
 -- the rules are such that a decoder may call itself after a prefix and wrap what comes back
 pub decoded-by-wrapping : Wraps rules
 decoded-by-wrapping = wraps
+
+-- what the decoder reads of a form with a ModRM, by the operand and the byte alone, is what the row reads that the form means
+pub modrm-by-rows : (form : WithModRM) (size : OperandSize) (opcode : ℕ) → Agrees opcode (modRMMeant form size opcode) (modRMReading form size opcode)
+modrm-by-rows = modrm-agrees
 
 -- "Every one of the 256 first bytes has one row in the form table": the table has 256 numbers, and each is the code of its opcode's row
 pub table-whole : length numbers ≡ 256
