@@ -16,8 +16,6 @@ use Rattle.mrc_instruction.specs.declared.operand.Immediate.{Immediate}
 use Rattle.mrc_instruction.specs.declared.operation.Operation.{Operation}
 use Rattle.mrc_instruction.specs.declared.operation.Operation.the-variants.{MOV}
 use Rattle.mrc_instruction.specs.declared.register.RegisterEncoding.{RegisterEncoding}
-use Rattle.mrc_instruction.specs.declared.instruction.Repeated.{Repeated}
-use Rattle.mrc_instruction.specs.declared.instruction.Instruction.{Instruction}
 use Rattle.mrc_instruction.specs.declared.mrrm.RegisterOrMemory.{RegisterOrMemory}
 use Rattle.mrc_instruction.specs.declared.mrrm.OperandRead.{OperandRead}
 use Rattle.mrc_instruction.specs.Register.{registerOf, segmentOf}
@@ -27,7 +25,6 @@ use Rattle.mrc_instruction.specs.Read.{operandRead}
 use Rattle.mrc_instruction.proofs.Then.{after, through, then, then-at, stop-at}
 use Rattle.mrc_rules.specs.declared.Answer.{Answer}
 use Rattle.mrc_rules.specs.Forms.{Tail, rest, two, register, anImmediate, arithmetic, shift, rm, rmReg, regRm, rmSegment, segmentRm, groupImmediate, moveImmediate, shiftOne, shiftCl}
-use Rattle.mrc_rules.specs.Prefixes.{made}
 use Rattle.mrc_forms.specs.declared.answers.FormRead.{FormRead}
 use Rattle.mrc_forms.specs.Behind.{behind, formRead, popBehind}
 use Rattle.mrc_pairs.specs.declared.common.Direction.{Direction}
@@ -176,48 +173,28 @@ pub segment-anywhere : (opcode : ℕ) (operand : Operand) (byte at : ℕ) (l : L
     → formRead at (readFrom (segmentBehind opcode operand byte) []) ≡ formRead at (readFrom (segmentBehind opcode operand byte) l)
 segment-anywhere opcode operand byte at l = tested (ltb (byte / 8 % 8) 4) _ _ at l
 
--- what a form with a ModRM reads behind the opcode at a position, as an answer
-module _ (at : ℕ) (o : Outcome Tail) where
-  pub starts-before : {i : Instruction} {end : ℕ} → FormRead.Got i end ≡ formRead (at + 1) o → at ≤ end
-  starts-before {i} {end} = go o
-    where
-      go : (o : Outcome Tail) → FormRead.Got i end ≡ formRead (at + 1) o → at ≤ end
-      go (got j n) e =
-          let position : end ≡ at + 1 + n = cc in
-          omega (arith, position)
-      go (stopped x n) e =
-          let clash : _≡_ {A = ℕ} 0 1 = cc in
-          omega (arith, clash)
+-- what is read behind the opcode at a position, as the decoder answers it; and the position behind that
+abbrev pub answerAt : ℕ → FormRead → Answer
+answerAt at (FormRead.Got i end) = Answer.Decoded i (end - at) 0
+answerAt at (FormRead.Refused e end) = Answer.Refused e (end - at) 0
 
-  pub stops-after : {x : Refusal} {end : ℕ} → FormRead.Refused x end ≡ formRead (at + 1) o → at ≤ end
-  stops-after {x} {end} = go o
-    where
-      go : (o : Outcome Tail) → FormRead.Refused x end ≡ formRead (at + 1) o → at ≤ end
-      go (got j n) e =
-          let clash : _≡_ {A = ℕ} 0 1 = cc in
-          omega (arith, clash)
-      go (stopped y n) e =
-          let position : end ≡ at + 1 + n = cc in
-          omega (arith, position)
+abbrev pub endOf : FormRead → ℕ
+endOf (FormRead.Got i end) = end
+endOf (FormRead.Refused e end) = end
 
-  pub decoded-behind : {i : Instruction} {end : ℕ} → FormRead.Got i end ≡ formRead (at + 1) o → Answer.Decoded i (end - at) 0 ≡ behind o
-  decoded-behind {i} {end} = go o
-    where
-      go : (o : Outcome Tail) → FormRead.Got i end ≡ formRead (at + 1) o → Answer.Decoded i (end - at) 0 ≡ behind o
-      go (got j n) e =
-          let read : i ≡ made j Repeated.None (j .operands) = cc in
-          let position : end ≡ at + 1 + n = cc in
-          let count : at + 1 + n - at ≡ suc n = omega arith in
-          rw (read, position, count)
-      go (stopped x n) e = cc
+taken-at : (at n : ℕ) → at + 1 + n - at ≡ suc n
+taken-at at n = omega arith
 
-  pub refused-behind : {x : Refusal} {end : ℕ} → FormRead.Refused x end ≡ formRead (at + 1) o → Answer.Refused x (end - at) 0 ≡ behind o
-  refused-behind {x} {end} = go o
-    where
-      go : (o : Outcome Tail) → FormRead.Refused x end ≡ formRead (at + 1) o → Answer.Refused x (end - at) 0 ≡ behind o
-      go (got j n) e = cc
-      go (stopped y n) e =
-          let read : x ≡ y = cc in
-          let position : end ≡ at + 1 + n = cc in
-          let count : at + 1 + n - at ≡ suc n = omega arith in
-          rw (read, position, count)
+answered-at : (at : ℕ) (o : Outcome Tail) → answerAt at (formRead (at + 1) o) ≡ behind o
+answered-at at (got i n) = rw (taken-at at n)
+answered-at at (stopped e n) = rw (taken-at at n)
+
+ended-at : (at : ℕ) (o : Outcome Tail) → at ≤ endOf (formRead (at + 1) o)
+ended-at at (got i n) = omega arith
+ended-at at (stopped e n) = omega arith
+
+pub answers-behind : (at : ℕ) (o : Outcome Tail) (r : FormRead) → r ≡ formRead (at + 1) o → answerAt at r ≡ behind o
+answers-behind at o r e = ap (answerAt at) e ∙ answered-at at o
+
+pub ends-behind : (at : ℕ) (o : Outcome Tail) (r : FormRead) → r ≡ formRead (at + 1) o → at ≤ endOf r
+ends-behind at o r e = rw e (ended-at at o)

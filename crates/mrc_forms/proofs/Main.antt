@@ -1,16 +1,15 @@
 -- What the form readers settle: each promise has exactly one answer.
 -- Assumes nothing.
-use Prim.Native.Nat.{ℕ, _/_, _%_}
+use Prim.Native.Nat.{ℕ}
 use mathlib.Core.Path.{_≡_}
 use mathlib.Core.List.{List}
 use Rattle.mrc_instruction.specs.declared.operand.OperandSize.{OperandSize}
-use Rattle.mrc_instruction.specs.declared.operand.Operand.{Operand}
 use Rattle.mrc_instruction.specs.declared.operation.Operation.{Operation}
 use Rattle.mrc_instruction.specs.Reading.{Reading, Outcome, readFrom}
 use Rattle.mrc_instruction.specs.Promise.{ExactlyOne}
 use Rattle.mrc_instruction.proofs.Unique.{exactly-one}
 use Rattle.mrc_rules.specs.declared.Answer.{Answer}
-use Rattle.mrc_rules.specs.Forms.{Tail, Row, one, anImmediate, aDisplacement, arithmetic, shift, incOrDec, unaryOperation}
+use Rattle.mrc_rules.specs.Forms.{Tail, Row, anImmediate, aDisplacement, arithmetic, shift, incOrDec, unaryOperation}
 use Rattle.mrc_forms.specs.declared.answers.FormRead.{FormRead}
 use Rattle.mrc_forms.specs.declared.traits.ImmediateRead.{ImmediateRead}
 use Rattle.mrc_forms.specs.declared.traits.DisplacementRead.{DisplacementRead}
@@ -26,8 +25,8 @@ form-settled opcode row l = exactly-one (readBy opcode row l)
 pub behind-settled : (at : ℕ) (m : Reading Tail) (l : List ℕ) → ExactlyOne (λ (r : FormRead). r ≡ formRead at (readFrom m l))
 behind-settled at m l = exactly-one (formRead at (readFrom m l))
 
-pub increment-settled : (byte at : ℕ) (destination : Operand) → ExactlyOne (λ (r : FormRead). r ≡ FormRead.Got (one (incOrDec (byte / 8 % 8)) destination) at)
-increment-settled byte at destination = exactly-one (FormRead.Got (one (incOrDec (byte / 8 % 8)) destination) at)
+pub got-settled : (i : Tail) (at : ℕ) → ExactlyOne (λ (r : FormRead). r ≡ FormRead.Got i at)
+got-settled i at = exactly-one (FormRead.Got i at)
 
 -- the readers of immediates and displacements
 pub immediate-settled : (size : OperandSize) (l : List ℕ) → ExactlyOne (λ (r : ImmediateRead). r ≡ immediateRead (readFrom (anImmediate size) l))

@@ -1,5 +1,6 @@
 -- What the forms of a destination and a source settle: the order of the two, where a bit turns it, all else alike; and behind a ModRM
 -- exactly one answer.
+-- That exactly one answer meets each promise: `form-settled`, `behind-settled` and `got-settled` of mrc_forms.
 -- Assumes nothing.
 use Prim.Native.Nat.{ℕ}
 use mathlib.Core.Path.{_≡_, refl}
@@ -10,13 +11,9 @@ use Rattle.mrc_instruction.specs.declared.errors.Refusal.{Refusal}
 use Rattle.mrc_instruction.specs.declared.operand.Operand.{Operand}
 use Rattle.mrc_instruction.specs.declared.operand.OperandSize.{OperandSize}
 use Rattle.mrc_instruction.specs.declared.operation.Operation.{Operation}
-use Rattle.mrc_instruction.specs.Reading.{Reading, done, refuse, readFrom, aWord}
+use Rattle.mrc_instruction.specs.Reading.{done, refuse, readFrom, aWord}
 use Rattle.mrc_instruction.specs.Mrrm.{regField, aModRM}
-use Rattle.mrc_instruction.specs.Promise.{ExactlyOne}
-use Rattle.mrc_instruction.proofs.Unique.{exactly-one}
 use Rattle.mrc_rules.specs.Forms.{Tail, rmReg, regRm, rmSegment, segmentRm, accDirect, directAcc, rest}
-use Rattle.mrc_forms.specs.declared.answers.FormRead.{FormRead}
-use Rattle.mrc_forms.specs.Behind.{formRead}
 use Rattle.mrc_pairs.specs.declared.common.Direction.the-variants.{RegFirst, RegMemFirst}
 use Rattle.mrc_pairs.specs.Common.{registerBehind}
 use Rattle.mrc_pairs.specs.Order.{exchanged, exchangedIn}
@@ -44,10 +41,3 @@ segment-order opcode = mirrored aModRM _ _ (λ m. picked (ltb (regField m) 4) _ 
 -- A2 and A3, and A0 and A1
 pub direct-order : (opcode : ℕ) (size : OperandSize) (l : List ℕ) → readFrom (rest opcode (directAcc size)) l ≡ exchangedIn (readFrom (rest opcode (accDirect size)) l)
 direct-order opcode size = mirrored aWord _ _ (λ w l. refl)
-
--- a form's function behind its ModRM, whatever it reads there, and where it reads nothing
-pub read-settled : (m : Reading Tail) (l : List ℕ) (at : ℕ) → ExactlyOne (λ (r : FormRead). r ≡ formRead at (readFrom m l))
-read-settled m l at = exactly-one (formRead at (readFrom m l))
-
-pub got-settled : (i : Tail) (at : ℕ) → ExactlyOne (λ (r : FormRead). r ≡ FormRead.Got i at)
-got-settled i at = exactly-one (FormRead.Got i at)
