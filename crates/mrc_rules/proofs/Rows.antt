@@ -1,140 +1,241 @@
--- What each row of the table comes to: the operands of its places, and its refusals.
+-- What each row of the table comes to: the operands, the operation, the length and the refusals of its account.
 -- Assumes nothing.
-use borrow.Author.Tests.{eqb-false, ltb-false}
-use mathlib.Core.Path.{_≡_, refl, ap, ap₂}
-use mathlib.Core.Bool.{Bool, true, false}
-use mathlib.Core.List.{[], _∷_}
-use Prim.Native.Nat.{ℕ, _/_, _%_, _≤_, _<_}
+use borrow.Author.Tests.{ne-eqb}
+use mathlib.Core.Path.{_≡_, refl, ap, ap₂, sym, subst, _∙_}
+use mathlib.Core.Bool.{Bool, true, false, cond}
+use mathlib.Core.List.{List, [], _∷_, _++_, map}
+use mathlib.Core.Option.{Option, none, some}
+use Prim.Native.Nat.{ℕ, zero, suc, _+_, _<_}
 use native.Mathlib.Omega.{arith}
 use lib.Dec.{eqb, ltb}
+use lib.ListN.{length, getD, length-append}
 use Rattle.mrc_instruction.specs.declared.errors.Refusal.{Refusal}
-use Rattle.mrc_instruction.specs.declared.register.RegisterEncoding.the-variants.{AlAx, ClCx}
+use Rattle.mrc_instruction.specs.declared.operand.OperandSize.{OperandSize}
 use Rattle.mrc_instruction.specs.declared.operand.OperandSize.the-variants.{Byte, Word}
+use Rattle.mrc_instruction.specs.declared.operand.Immediate.{Immediate}
+use Rattle.mrc_instruction.specs.declared.operand.Operand.{Operand}
 use Rattle.mrc_instruction.specs.declared.instruction.OperandSet.{OperandSet}
-use Rattle.mrc_instruction.specs.declared.operation.Operation.the-variants.{MOV}
-use Rattle.mrc_instruction.specs.Reading.{aByte, aWord}
-use Rattle.mrc_instruction.specs.Mrrm.{ModRM, modRM, regField}
-use Rattle.mrc_rules.specs.Forms.{Row, rest, register, acc, aDisplacement, reg, arithmetic, shift, bare, prefix, invalid, rmReg, regRm, accImmediate, onSegment, onRegister, jump, groupImmediate, groupByteToWord, popRm, rmSegment, segmentRm, exchange, far, accDirect, directAcc, registerImmediate, shiftImmediate, shiftOne, shiftCl, onImmediate, moveImmediate, escape, inPort, outPort, inDx, outDx, unary, incDec}
-use Rattle.mrc_rules.specs.Operands.{RM, REG, SEGREG, IMMED, ZERO16, MEM, REL, FAR, THE, SEG, ONE, AX, DX, Places, nothing, only, _⟵_, test}
+use Rattle.mrc_instruction.specs.declared.operation.Operation.{Operation}
+use Rattle.mrc_instruction.specs.declared.operation.Operation.the-variants.{ADD, OR, ADC, SBB, AND, SUB, XOR, CMP, ROL, ROR, RCL, RCR, SHL, SHR, SAR, NOT, NEG, MUL, IMUL, DIV, IDIV, INC, DEC, CALL, JMP, PUSH, MOV, POP}
+use Rattle.mrc_instruction.specs.Errors.{numberOf, byteOf}
+use Rattle.mrc_instruction.specs.Reading.{Reading, done, refuse, _>>=_, aByte, aWord}
+use Rattle.mrc_instruction.specs.Mrrm.{ModRM, aModRM, regField}
+use Rattle.mrc_instruction.specs.Instruction.{plain}
+use Rattle.mrc_rules.specs.Forms.{Tail, Row, rest, one, two, register, acc, anImmediate, aDisplacement, rm, reg, arithmetic, shift, incOrDec, unaryOperation, unaryBy, bare, prefix, invalid, rmReg, regRm, accImmediate, onSegment, onRegister, jump, groupImmediate, groupByteToWord, popRm, rmSegment, segmentRm, exchange, far, accDirect, directAcc, registerImmediate, shiftImmediate, shiftOne, shiftCl, onImmediate, moveImmediate, escape, inPort, outPort, inDx, outDx, unary, incDec}
+use Rattle.mrc_rules.specs.Operands.{RM, REG, SEGREG, IMMED, REL, ZERO16, Places, only, _⟵_, test, byteAt, operandAt, operandsAt}
+use Rattle.mrc_rules.specs.Operations.{Mnemonic, the, byReg, nameAt}
+use Rattle.mrc_rules.specs.Operations as op
+use Rattle.mrc_rules.specs.Lengths.{fixed, modRM, tested, displacementBytes, lengthBy}
+use Rattle.mrc_rules.specs.Refusals.{read, refused}
 use Rattle.mrc_rules.proofs.Along.{Along, along-bind, along-cond}
-use Rattle.mrc_rules.proofs.Places.{Placed, Nowhere, by-segment, displacement-along, after-modrm, after-immediate, modrm-immediate, modrm-widened, modrm-two, unary-along}
+use Rattle.mrc_rules.proofs.Accounts.{Account, account, accountOf, Bar, free, popped, segment, grouped, verdictBy, bytesIn}
+use Rattle.mrc_rules.proofs.Places.{Followed, at-end, Says, by-segment, Waits, RefusedBy, ReadBy, Walk, Modrm, modrm-along, byte-along, immediate-along, displacement-along}
 
--- the places of a form
-abbrev pub placesOf : Row → Places
-placesOf (bare op) = nothing
-placesOf prefix = nothing
-placesOf invalid = nothing
-placesOf (rmReg op size) = RM size ⟵ REG size
-placesOf (regRm op size) = REG size ⟵ RM size
-placesOf (accImmediate op size) = THE AlAx size ⟵ IMMED size
-placesOf (onSegment op s) = only (SEG s)
-placesOf (onRegister op r) = only (THE r Word)
-placesOf (jump op size) = only (REL size)
-placesOf (groupImmediate size) = RM size ⟵ IMMED size
-placesOf groupByteToWord = RM Word ⟵ ZERO16
-placesOf popRm = only (RM Word)
-placesOf rmSegment = RM Word ⟵ SEGREG
-placesOf segmentRm = SEGREG ⟵ RM Word
-placesOf (exchange r) = AX ⟵ THE r Word
-placesOf (far op) = only FAR
-placesOf (accDirect size) = THE AlAx size ⟵ MEM size
-placesOf (directAcc size) = MEM size ⟵ THE AlAx size
-placesOf (registerImmediate r size) = THE r size ⟵ IMMED size
-placesOf (shiftImmediate size) = RM size ⟵ IMMED Byte
-placesOf (shiftOne size) = RM size ⟵ ONE
-placesOf (shiftCl size) = RM size ⟵ THE ClCx size
-placesOf (onImmediate op size) = only (IMMED size)
-placesOf (moveImmediate size) = RM size ⟵ IMMED size
-placesOf escape = nothing
-placesOf (inPort size) = THE AlAx size ⟵ IMMED Byte
-placesOf (outPort size) = IMMED Byte ⟵ THE AlAx size
-placesOf (inDx size) = THE AlAx size ⟵ DX
-placesOf (outDx size) = DX ⟵ THE AlAx size
-placesOf (unary size) = test (RM size) (IMMED size)
-placesOf (incDec size) = only (RM size)
+-- a group's operation is the one that reg names in it
+abbrev Named : Mnemonic → (ModRM → Operation) → Type 0
+Named name f = (m : ModRM) (l : List ℕ) → Says m l → nameAt l name ≡ some (f m)
 
--- the rows that refuse every byte
-abbrev pub refusing : Row → Bool
-refusing (bare op) = false
-refusing prefix = true
-refusing invalid = true
-refusing (rmReg op size) = false
-refusing (regRm op size) = false
-refusing (accImmediate op size) = false
-refusing (onSegment op s) = false
-refusing (onRegister op r) = false
-refusing (jump op size) = false
-refusing (groupImmediate size) = false
-refusing groupByteToWord = false
-refusing popRm = false
-refusing rmSegment = false
-refusing segmentRm = false
-refusing (exchange r) = false
-refusing (far op) = false
-refusing (accDirect size) = false
-refusing (directAcc size) = false
-refusing (registerImmediate r size) = false
-refusing (shiftImmediate size) = false
-refusing (shiftOne size) = false
-refusing (shiftCl size) = false
-refusing (onImmediate op size) = false
-refusing (moveImmediate size) = false
-refusing escape = false
-refusing (inPort size) = false
-refusing (outPort size) = false
-refusing (inDx size) = false
-refusing (outDx size) = false
-refusing (unary size) = false
-refusing (incDec size) = false
+in-list : (l : List Operation) (n : ℕ) (d : Operation) → n < length l → getD (map some l) n none ≡ some (getD l n d)
+in-list [] n d h = absurd (omega arith)
+in-list (x ∷ l) zero d h = refl
+in-list (x ∷ l) (suc n) d h = in-list l n d (omega arith)
 
-module _ (P : Refusal → Type 0) (opcode : ℕ) where
-  -- P holds of every refusal that a row gives
-  pub record Refuses (row : Row) : Type 0 where
-    pub unread : refusing row ≡ true → P (Refusal.InvalidOpCode opcode)
-    pub unary : P (Refusal.InvalidOpCode 1)
-    pub pop : (modRM : ℕ) → ¬ (modRM / 8 % 8 ≡ 0) → P (Refusal.InvalidModRegRMEncoding modRM)
-    pub segment : (field : ℕ) → 4 ≤ field → field < 8 → P (Refusal.InvalidSegmentEncoding field)
+by-list : (l : List Operation) (d : Operation) → length l ≡ 8 → Named (byReg (map some l)) (λ m. getD l (regField m) d)
+by-list l d e m x s = rw (sym (s .field)) (in-list l (regField m) d (omega arith))
 
-  no-segment : (m : ModRM) → ltb (regField m) 4 ≡ false → ((field : ℕ) → 4 ≤ field → field < 8 → P (Refusal.InvalidSegmentEncoding field))
-      → P (Refusal.InvalidSegmentEncoding (regField m))
-  no-segment m e h = h (regField m) (ltb-false (regField m) 4 e) (omega arith)
+the-one : (o : Operation) → Named (the o) (λ m. o)
+the-one o m l s = refl
 
-  pub row-along : (row : Row) → Refuses row → Along P (Placed (placesOf row)) (opcode ∷ []) (rest opcode row)
-  unfolding aByte aWord Nowhere
-  row-along (bare op) g = refl
-  row-along prefix g = g .unread refl
-  row-along invalid g = g .unread refl
-  row-along (rmReg op size) g = modrm-two P opcode size (REG size) (λ m. op) (λ m. reg m size) (λ m l s. s .by-reg size)
-  row-along (regRm op size) g = after-modrm P (placesOf (regRm op size)) opcode _ (λ m l s h. ap₂ OperandSet.DestinationAndSource (s .by-reg size) (s .by-rm size))
-  row-along (accImmediate op size) g = after-immediate P (placesOf (accImmediate op size)) opcode size _ (λ i l e. ap (OperandSet.DestinationAndSource (acc size)) e)
-  row-along (onSegment op s) g = refl
-  row-along (onRegister op r) g = refl
-  row-along (jump op size) g =
-      along-bind P _ _ (opcode ∷ []) (aDisplacement size) _ (displacement-along P Nowhere (opcode ∷ []) (λ x. tt) size) (λ d l e. ap OperandSet.Destination (e .0))
-  row-along (groupImmediate size) g = modrm-immediate P opcode size size (λ m. arithmetic (regField m))
-  row-along groupByteToWord g = modrm-widened P opcode (λ m. arithmetic (regField m))
-  row-along popRm g = after-modrm P (placesOf popRm) opcode _ (λ m l s h. along-cond P _ l (eqb (regField m) 0) _ _ (λ e. ap OperandSet.Destination (s .by-rm Word)) (λ e. g .pop (m .byte) (eqb-false (regField m) 0 e)))
-  row-along rmSegment g =
-      after-modrm P (placesOf rmSegment) opcode _
-      (λ m l s h. along-cond P _ l (ltb (regField m) 4) _ _ (λ e. ap₂ OperandSet.DestinationAndSource (s .by-rm Word) (by-segment m l s)) (λ e. no-segment m e (g .segment)))
-  row-along segmentRm g =
-      after-modrm P (placesOf segmentRm) opcode _
-      (λ m l s h. along-cond P _ l (ltb (regField m) 4) _ _ (λ e. ap₂ OperandSet.DestinationAndSource (by-segment m l s) (s .by-rm Word)) (λ e. no-segment m e (g .segment)))
-  row-along (exchange r) g = refl
-  row-along (far op) g = λ a b c d. refl
-  row-along (accDirect size) g = λ low high. refl
-  row-along (directAcc size) g = λ low high. refl
-  row-along (registerImmediate r size) g =
-      after-immediate P (placesOf (registerImmediate r size)) opcode size _ (λ i l e. ap (OperandSet.DestinationAndSource (register r size)) e)
-  row-along (shiftImmediate size) g = modrm-immediate P opcode size Byte (λ m. shift (regField m))
-  row-along (shiftOne size) g = modrm-two P opcode size ONE (λ m. shift (regField m)) _ (λ m l s. refl)
-  row-along (shiftCl size) g = modrm-two P opcode size (THE ClCx size) (λ m. shift (regField m)) _ (λ m l s. refl)
-  row-along (onImmediate op size) g = after-immediate P (placesOf (onImmediate op size)) opcode size _ (λ i l e. ap OperandSet.Destination e)
-  row-along (moveImmediate size) g = modrm-immediate P opcode size size (λ m. MOV)
-  row-along escape g = λ b. refl
-  row-along (inPort size) g = λ b. refl
-  row-along (outPort size) g = λ b. refl
-  row-along (inDx size) g = refl
-  row-along (outDx size) g = refl
-  row-along (unary size) g = after-modrm P (placesOf (unary size)) opcode _ (λ m l s h. unary-along P (g .unary) (regField m) size m l refl s h)
-  row-along (incDec size) g = after-modrm P (placesOf (incDec size)) opcode _ (λ m l s h. ap OperandSet.Destination (s .by-rm size))
+arithmetic-named : Named (byReg op.arithmetic) (λ m. arithmetic (regField m))
+arithmetic-named = by-list (ADD ∷ OR ∷ ADC ∷ SBB ∷ AND ∷ SUB ∷ XOR ∷ CMP ∷ []) CMP refl
+
+shift-named : Named (byReg op.shifts) (λ m. shift (regField m))
+shift-named = by-list (ROL ∷ ROR ∷ RCL ∷ RCR ∷ SHL ∷ SHR ∷ SHL ∷ SAR ∷ []) SAR refl
+
+transfer-named : Named (byReg op.transfers) (λ m. incOrDec (regField m))
+transfer-named = by-list (INC ∷ DEC ∷ CALL ∷ CALL ∷ JMP ∷ JMP ∷ PUSH ∷ PUSH ∷ []) PUSH refl
+
+-- the length of a ModRM and n bytes behind it, and that more are asked for before they are read
+module _ (m : ModRM) (l : List ℕ) (s : Modrm m l) (n : ℕ) where
+  pub behind-waits : (x : List ℕ) → length x < n → length (l ++ x) < lengthBy (modRM n) (l ++ x)
+  behind-waits x h = rw (s .0 x .second) (omega (arith, length-append l x, s .1))
+
+  pub behind-whole : (y : List ℕ) → Followed (Says m) y → length y ≡ length l + n → (x : List ℕ) → lengthBy (modRM n) (y ++ x) ≡ length y
+  behind-whole y k e x = rw (k x .second) (omega (arith, s .1))
+
+alone-whole : (m : ModRM) (l : List ℕ) → Modrm m l → (x : List ℕ) → lengthBy (modRM 0) (l ++ x) ≡ length l
+alone-whole m l s = behind-whole m l s 0 l (s .0) (omega arith)
+
+-- what is read where the last byte is: a ModRM with n bytes behind it, and with none
+module _ (q : Places) (name : Mnemonic) (bar : Bar) (m : ModRM) (i : Tail) (named : (l : List ℕ) → Says m l → nameAt l name ≡ some (i .operation)) where
+  read-behind : (n : ℕ) (l : List ℕ) → Modrm m l → (y : List ℕ) → Followed (Says m) y → length y ≡ length l + n → i .operands ≡ operandsAt y q
+      → ((x : List ℕ) → verdictBy bar (y ++ x) ≡ read) → ReadBy (account q name (modRM n) bar) i y
+  read-behind n l s y k e h t = record { operands = h; operation = λ x. named (y ++ x) (k x); whole = behind-whole m l s n y k e; told = t }
+
+  read-alone : (l : List ℕ) → Modrm m l → i .operands ≡ operandsAt l q → ((x : List ℕ) → verdictBy bar (l ++ x) ≡ read)
+      → ReadBy (account q name (modRM 0) bar) i l
+  read-alone l s h t = read-behind 0 l s l (s .0) (omega arith) h t
+
+-- nothing is asked
+unfoldable Nowhere : List ℕ → Type 0
+Nowhere l = Unit {0}
+
+module _ (opcode : ℕ) where
+  -- a ModRM, and what is done with it
+  after-modrm : (q : Places) (name : Mnemonic) (bar : Bar) (n : ℕ) (f : ModRM → Reading Tail)
+      → ((m : ModRM) (l : List ℕ) → Modrm m l → Walk (account q name (modRM n) bar) l (f m))
+      → Walk (account q name (modRM n) bar) (opcode ∷ []) (aModRM >>= f)
+  after-modrm q name bar n f h =
+      let c = account q name (modRM n) bar in
+      along-bind (Waits c) (RefusedBy c) _ _ (opcode ∷ []) aModRM f (modrm-along (Waits c) (RefusedBy c) opcode (λ l k. omega arith)) h
+
+  -- an immediate behind the opcode, and a displacement
+  after-immediate : (q : Places) (o : Operation) (size : OperandSize) (f : Immediate → OperandSet)
+      → ((i : Immediate) (l : List ℕ) → Operand.Immediate i ≡ operandAt l (IMMED size) → f i ≡ operandsAt l q)
+      → Walk (account q (the o) (fixed (bytesIn size)) free) (opcode ∷ []) (anImmediate size >>= λ i. done (plain o (f i)))
+  unfolding Nowhere
+  after-immediate q o size f h =
+      let c = account q (the o) (fixed (bytesIn size)) free in
+      along-bind (Waits c) (RefusedBy c) _ _ (opcode ∷ []) (anImmediate size) _
+      (immediate-along (Waits c) (RefusedBy c) Nowhere (opcode ∷ []) (λ x. tt) size (λ x k. omega arith))
+      (λ i l e. record { operands = h i l (e .0); operation = λ x. refl; whole = λ x. omega (arith, e .2); told = λ x. refl })
+
+  after-displacement : (o : Operation) (size : OperandSize)
+      → Walk (account (only (REL size)) (the o) (fixed (bytesIn size)) free) (opcode ∷ []) (aDisplacement size >>= λ d. done (one o (Operand.Displacement d)))
+  unfolding Nowhere
+  after-displacement o size =
+      let c = account (only (REL size)) (the o) (fixed (bytesIn size)) free in
+      along-bind (Waits c) (RefusedBy c) _ _ (opcode ∷ []) (aDisplacement size) _
+      (displacement-along (Waits c) (RefusedBy c) Nowhere (opcode ∷ []) (λ x. tt) size (λ x k. omega arith))
+      (λ d l e. record { operands = ap OperandSet.Destination (e .0); operation = λ x. refl; whole = λ x. omega (arith, e .2); told = λ x. refl })
+
+  -- a ModRM alone; and one whose reg a test may refuse
+  modrm-alone : (q : Places) (name : Mnemonic) (o : ModRM → Operation) (operands : ModRM → OperandSet) → Named name o
+      → ((m : ModRM) (l : List ℕ) → Says m l → operands m ≡ operandsAt l q)
+      → Walk (account q name (modRM 0) free) (opcode ∷ []) (aModRM >>= λ m. done (plain (o m) (operands m)))
+  modrm-alone q name o operands named e =
+      after-modrm q name free 0 _ (λ m l s. read-alone q name free m _ (named m) l s (e m l (at-end (Says m) l (s .0))) (λ x. refl))
+
+  modrm-tested : (q : Places) (o : Operation) (bar : Bar) (operands : ModRM → OperandSet) (passes : ModRM → Bool) (refusal : ModRM → Refusal)
+      → ((m : ModRM) (l : List ℕ) → Says m l → operands m ≡ operandsAt l q)
+      → ((m : ModRM) (l : List ℕ) → Says m l → verdictBy bar l ≡ cond (passes m) read (refused (numberOf (refusal m)) (byteOf (refusal m))))
+      → Walk (account q (the o) (modRM 0) bar) (opcode ∷ []) (aModRM >>= λ m. cond (passes m) (done (plain o (operands m))) (refuse (refusal m)))
+  modrm-tested q o bar operands passes refusal e v =
+      let c = account q (the o) (modRM 0) bar in
+      after-modrm q (the o) bar 0 _
+      (λ m l s. along-cond (Waits c) (RefusedBy c) _ l (passes m) _ _
+      (λ t. read-alone q (the o) bar m _ (the-one o m) l s (e m l (at-end (Says m) l (s .0))) (λ x. v m (l ++ x) (s .0 x) ∙ rw t refl))
+      (λ t. record { whole = alone-whole m l s; told = λ x. v m (l ++ x) (s .0 x) ∙ rw t refl }))
+
+  -- a ModRM and then an immediate: mod and rm name the destination, and the source is the immediate
+  modrm-immediate : (size width : OperandSize) (name : Mnemonic) (o : ModRM → Operation) → Named name o
+      → Walk (account (RM size ⟵ IMMED width) name (modRM (bytesIn width)) free) (opcode ∷ [])
+      (aModRM >>= λ m. anImmediate width >>= λ i. done (two (o m) (rm m size) (Operand.Immediate i)))
+  modrm-immediate size width name o named =
+      let q = RM size ⟵ IMMED width in
+      let c = account q name (modRM (bytesIn width)) free in
+      after-modrm q name free (bytesIn width) _
+      (λ m l s. along-bind (Waits c) (RefusedBy c) _ _ l (anImmediate width) _
+      (immediate-along (Waits c) (RefusedBy c) (Says m) l (s .0) width (behind-waits m l s (bytesIn width)))
+      (λ i y e. read-behind q name free m _ (named m) (bytesIn width) l s y (e .1) (e .2)
+      (ap₂ OperandSet.DestinationAndSource (at-end (Says m) y (e .1) .by-rm size) (e .0)) (λ x. refl)))
+
+  -- the same with a byte that is widened with zeros
+  modrm-widened : (name : Mnemonic) (o : ModRM → Operation) → Named name o
+      → Walk (account (RM Word ⟵ ZERO16) name (modRM 1) free) (opcode ∷ [])
+      (aModRM >>= λ m. aByte >>= λ b. done (two (o m) (rm m Word) (Operand.Immediate (Immediate.Word b))))
+  modrm-widened name o named =
+      let q = RM Word ⟵ ZERO16 in
+      let c = account q name (modRM 1) free in
+      after-modrm q name free 1 _
+      (λ m l s. along-bind (Waits c) (RefusedBy c) _ _ l aByte _
+      (byte-along (Waits c) (RefusedBy c) (Says m) l (s .0) (λ b. Operand.Immediate (Immediate.Word b)) ZERO16 (λ y. refl) (behind-waits m l s 1))
+      (λ b y e. read-behind q name free m _ (named m) 1 l s y (e .1) (e .2)
+      (ap₂ OperandSet.DestinationAndSource (at-end (Says m) y (e .1) .by-rm Word) (e .0)) (λ x. refl)))
+
+-- reg is 0, 1 or more, at F6 and F7
+module _ (size : OperandSize) (m : ModRM) (l : List ℕ) (s : Modrm m l) where
+  abbrev Unary : Account
+  Unary = account (test (RM size) (IMMED size)) (byReg op.unary) (tested (bytesIn size)) grouped
+
+  unary-along : (n : ℕ) → regField m ≡ n → Walk Unary l (unaryBy n (rm m size) size)
+  unary-along zero e =
+      along-bind (Waits Unary) (RefusedBy Unary) _ _ l (anImmediate size) _
+      (immediate-along (Waits Unary) (RefusedBy Unary) (Says m) l (s .0) size
+      (λ x h. rw (s .0 x .second, e) (omega (arith, length-append l x, s .1))))
+      (λ i y k. let here = at-end (Says m) y (k .1) in record {
+        operands = rw (sym (here .field) ∙ e) (ap₂ OperandSet.DestinationAndSource (here .by-rm size) (k .0));
+        operation = λ x. rw (k .1 x .second, e) refl;
+        whole = λ x. rw (k .1 x .second, e) (omega (arith, s .1, k .2));
+        told = λ x. rw (k .1 x .second, e) refl;
+      })
+  unary-along (suc zero) e = record { whole = λ x. rw (s .0 x .second, e) (omega (arith, s .1)); told = λ x. rw (s .0 x .second, e) refl }
+  unary-along (suc (suc n)) e =
+      let here = at-end (Says m) l (s .0) in
+      let more : eqb (suc (suc n)) 0 ≡ false = ne-eqb (suc (suc n)) 0 (omega arith) in
+      let not-one : eqb (suc (suc n)) 1 ≡ false = ne-eqb (suc (suc n)) 1 (omega arith) in
+      record {
+        operands = rw (sym (here .field) ∙ e, more) (ap OperandSet.Destination (here .by-rm size));
+        operation = λ x. rw (s .0 x .second, e) (in-list (NOT ∷ NEG ∷ MUL ∷ IMUL ∷ DIV ∷ IDIV ∷ []) n IDIV (omega arith));
+        whole = λ x. rw (s .0 x .second, e, more) (omega (arith, s .1));
+        told = λ x. rw (s .0 x .second, e, not-one) refl;
+      }
+
+pub row-along : (opcode : ℕ) (row : Row) → Walk (accountOf row) (opcode ∷ []) (rest opcode row)
+unfolding aByte aWord
+row-along opcode (bare o) = record { operands = refl; operation = λ x. refl; whole = λ x. refl; told = λ x. refl }
+row-along opcode prefix = record { whole = λ x. refl; told = λ x. refl }
+row-along opcode invalid = record { whole = λ x. refl; told = λ x. refl }
+row-along opcode (rmReg o size) = modrm-alone opcode (accountOf (rmReg o size) .places) (the o) _ _ (the-one o) (λ m l s. ap₂ OperandSet.DestinationAndSource (s .by-rm size) (s .by-reg size))
+row-along opcode (regRm o size) = modrm-alone opcode (accountOf (regRm o size) .places) (the o) _ _ (the-one o) (λ m l s. ap₂ OperandSet.DestinationAndSource (s .by-reg size) (s .by-rm size))
+row-along opcode (accImmediate o size) =
+    after-immediate opcode (accountOf (accImmediate o size) .places) o size _ (λ i l e. ap (OperandSet.DestinationAndSource (acc size)) e)
+row-along opcode (onSegment o s) = record { operands = refl; operation = λ x. refl; whole = λ x. refl; told = λ x. refl }
+row-along opcode (onRegister o r) = record { operands = refl; operation = λ x. refl; whole = λ x. refl; told = λ x. refl }
+row-along opcode (jump o size) = after-displacement opcode o size
+row-along opcode (groupImmediate size) = modrm-immediate opcode size size (byReg op.arithmetic) _ arithmetic-named
+row-along opcode groupByteToWord = modrm-widened opcode (byReg op.arithmetic) _ arithmetic-named
+row-along opcode popRm =
+    modrm-tested opcode (only (RM Word)) POP popped _ (λ m. eqb (regField m) 0) (λ m. Refusal.InvalidModRegRMEncoding (m .byte)) (λ m l s. ap OperandSet.Destination (s .by-rm Word)) (λ m l s. rw (s .second) refl)
+row-along opcode rmSegment =
+    modrm-tested opcode (RM Word ⟵ SEGREG) MOV segment _ (λ m. ltb (regField m) 4) (λ m. Refusal.InvalidSegmentEncoding (regField m))
+    (λ m l s. ap₂ OperandSet.DestinationAndSource (s .by-rm Word) (by-segment m l s)) (λ m l s. rw (s .second) refl)
+row-along opcode segmentRm =
+    modrm-tested opcode (SEGREG ⟵ RM Word) MOV segment _ (λ m. ltb (regField m) 4) (λ m. Refusal.InvalidSegmentEncoding (regField m))
+    (λ m l s. ap₂ OperandSet.DestinationAndSource (by-segment m l s) (s .by-rm Word)) (λ m l s. rw (s .second) refl)
+row-along opcode (exchange r) = record { operands = refl; operation = λ x. refl; whole = λ x. refl; told = λ x. refl }
+row-along opcode (far o) = (
+  omega arith,
+  λ a. (
+    omega arith,
+    λ b. (
+      omega arith,
+      λ c. (
+        omega arith,
+        λ d.
+            record { operands = refl; operation = λ x. refl; whole = λ x. refl; told = λ x. refl },
+      ),
+    ),
+  ),
+)
+row-along opcode (accDirect size) =
+    (omega arith, λ low. (omega arith, λ high. record { operands = refl; operation = λ x. refl; whole = λ x. refl; told = λ x. refl }))
+row-along opcode (directAcc size) =
+    (omega arith, λ low. (omega arith, λ high. record { operands = refl; operation = λ x. refl; whole = λ x. refl; told = λ x. refl }))
+row-along opcode (registerImmediate r size) =
+    after-immediate opcode (accountOf (registerImmediate r size) .places) MOV size _ (λ i l e. ap (OperandSet.DestinationAndSource (register r size)) e)
+row-along opcode (shiftImmediate size) = modrm-immediate opcode size Byte (byReg op.shifts) _ shift-named
+row-along opcode (shiftOne size) = modrm-alone opcode (accountOf (shiftOne size) .places) (byReg op.shifts) _ _ shift-named (λ m l s. ap₂ OperandSet.DestinationAndSource (s .by-rm size) refl)
+row-along opcode (shiftCl size) = modrm-alone opcode (accountOf (shiftCl size) .places) (byReg op.shifts) _ _ shift-named (λ m l s. ap₂ OperandSet.DestinationAndSource (s .by-rm size) refl)
+row-along opcode (onImmediate o size) = after-immediate opcode (accountOf (onImmediate o size) .places) o size _ (λ i l e. ap OperandSet.Destination e)
+row-along opcode (moveImmediate size) = modrm-immediate opcode size size (the MOV) (λ m. MOV) (the-one MOV)
+row-along opcode escape = (omega arith, λ b. record { operands = refl; operation = λ x. refl; whole = λ x. refl; told = λ x. refl })
+row-along opcode (inPort size) = (omega arith, λ b. record { operands = refl; operation = λ x. refl; whole = λ x. refl; told = λ x. refl })
+row-along opcode (outPort size) = (omega arith, λ b. record { operands = refl; operation = λ x. refl; whole = λ x. refl; told = λ x. refl })
+row-along opcode (inDx size) = record { operands = refl; operation = λ x. refl; whole = λ x. refl; told = λ x. refl }
+row-along opcode (outDx size) = record { operands = refl; operation = λ x. refl; whole = λ x. refl; told = λ x. refl }
+row-along opcode (unary size) =
+    let c = accountOf (unary size) in
+    along-bind (Waits c) (RefusedBy c) _ _ (opcode ∷ []) aModRM _ (modrm-along (Waits c) (RefusedBy c) opcode (λ l k. omega arith))
+    (λ m l s. unary-along size m l s (regField m) refl)
+row-along opcode (incDec size) = modrm-alone opcode (only (RM size)) (byReg op.transfers) _ _ transfer-named (λ m l s. ap OperandSet.Destination (s .by-rm size))

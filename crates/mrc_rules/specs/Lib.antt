@@ -5,5 +5,7 @@ pub mod Prefixes
 pub mod Decode
 pub mod Striking
 pub mod Operands
-pub mod Possible
+pub mod Operations
+pub mod Lengths
+pub mod Refusals
 pub mod Readings
