@@ -1,0 +1,90 @@
+-- A reader's answer says in numbers what the outcome says that it was made from; and where a reading refuses nothing by itself, that is what a
+-- reader may say.
+-- Assumes nothing.
+use mathlib.Core.Path.{_≡_, refl, ap, _∙_}
+use mathlib.Core.Bool.{Bool, true, false, cond}
+use mathlib.Core.Logic.{inl, inr}
+use mathlib.Core.List.{List}
+use Prim.Native.Nat.{ℕ, _+_, _-_, _<_, _≤_}
+use native.Mathlib.Omega.{arith}
+use borrow.Author.Tests.{le-leb, lt-leb}
+use lib.ListN.{length, drop, length-drop}
+use Rattle.mrc_instruction.specs.declared.errors.Refusal.{Refusal}
+use Rattle.mrc_instruction.specs.declared.operand.OperandSize.{OperandSize}
+use Rattle.mrc_instruction.specs.declared.read.ByteRead.{ByteRead}
+use Rattle.mrc_instruction.specs.declared.read.WordRead.{WordRead}
+use Rattle.mrc_instruction.specs.declared.mrrm.RegisterOrMemoryRead.{RegisterOrMemoryRead}
+use Rattle.mrc_instruction.specs.declared.mrrm.MrrmRead.{MrrmRead}
+use Rattle.mrc_instruction.specs.declared.mrrm.OperandRead.{OperandRead}
+use Rattle.mrc_instruction.specs.Reading.{Reading, Outcome, got, stopped, takenBy, readFrom, readAt, aByte, aWord}
+use Rattle.mrc_instruction.specs.Values.{Values, carrying, refusedWith, outcomeValues, OfReader}
+use Rattle.mrc_instruction.specs.Mrrm.{ModRM, registerOrMemory, aModRM, operandOf}
+use Rattle.mrc_instruction.specs.Read.{answered, byteRead, wordRead, registerOrMemoryRead, mrrmRead, operandRead, byteValues, wordValues, registerOrMemoryValues, mrrmValues, operandValues}
+use Rattle.mrc_instruction.proofs.Then.{taken-le}
+use Rattle.mrc_instruction.proofs.Ends.{Takes, Ended, ends, takes-byte, takes-word, takes-register-or-memory, takes-modrm}
+
+module _ {A : Type 0} where
+  reader-said : (l : List ℕ) (o : Outcome A) → takenBy o ≤ length l → Ended l o → OfReader (length l) (outcomeValues o)
+  reader-said l (got a n) h e = inl (h, refl)
+  reader-said l (stopped x n) h e = inr (ap (λ y. refusedWith y n 0) (e .0) ∙ ap (λ k. carrying 2 0 k 0) (e .1))
+
+  pub reader-says : (m : Reading A) (l : List ℕ) → Takes m → OfReader (length l) (outcomeValues (readFrom m l))
+  reader-says m l h = reader-said l (readFrom m l) (taken-le m l) (ends m l h)
+
+-- where both cases of an answer say what their outcomes say
+module _ {A R : Type 0} (whenGot : A → ℕ → R) (whenRefused : Refusal → ℕ → R) (values : R → Values)
+    (of-got : (a : A) (n : ℕ) → values (whenGot a n) ≡ carrying 0 0 n 0) (of-refused : (e : Refusal) (n : ℕ) → values (whenRefused e n) ≡ refusedWith e n 0) where
+  pub same-values : (o : Outcome A) → values (answered whenGot whenRefused o) ≡ outcomeValues o
+  same-values (got a n) = of-got a n
+  same-values (stopped e n) = of-refused e n
+
+  pub answer-says : (m : Reading A) (l : List ℕ) → Takes m → OfReader (length l) (values (answered whenGot whenRefused (readFrom m l)))
+  answer-says m l h = rw (same-values (readFrom m l)) (reader-says m l h)
+
+-- at a position of an input
+module _ {A R : Type 0} (whenGot : A → ℕ → R) (whenRefused : Refusal → ℕ → R) (values : R → Values)
+    (of-got : (a : A) (n : ℕ) → values (whenGot a n) ≡ carrying 0 0 n 0) (of-refused : (e : Refusal) (n : ℕ) → values (whenRefused e n) ≡ refusedWith e n 0)
+    (m : Reading A) (s : List ℕ) (at : ℕ) where
+  pub outside-says : length s < at → values (answered whenGot whenRefused (readAt m s at)) ≡ carrying 11 0 0 0
+  outside-says h = rw (lt-leb at (length s) h) (of-refused Refusal.OutsideInput 0)
+
+  pub inside-says : at ≤ length s → Takes m → OfReader (length s - at) (values (answered whenGot whenRefused (readAt m s at)))
+  inside-says h t = rw (le-leb at (length s) h, ← length-drop at s) (answer-says whenGot whenRefused values of-got of-refused m (drop at s) t)
+
+-- of an answer that a test picks
+pub by-test : {R : Type 0} (values : R → Values) (t : Bool) (x y : R) → values (cond t x y) ≡ cond t (values x) (values y)
+by-test values true x y = refl
+by-test values false x y = refl
+
+-- each reader
+pub byte : (l : List ℕ) → OfReader (length l) (byteValues (byteRead (readFrom aByte l)))
+byte l = answer-says ByteRead.Got ByteRead.Refused byteValues (λ b n. refl) (λ e n. refl) aByte l takes-byte
+
+pub word : (l : List ℕ) → OfReader (length l) (wordValues (wordRead (readFrom aWord l)))
+word l = answer-says WordRead.Got WordRead.Refused wordValues (λ w n. refl) (λ e n. refl) aWord l takes-word
+
+pub register-or-memory : (mode rm : ℕ) (l : List ℕ) → OfReader (length l) (registerOrMemoryValues (registerOrMemoryRead (readFrom (registerOrMemory mode rm) l)))
+register-or-memory mode rm l =
+    answer-says RegisterOrMemoryRead.Got RegisterOrMemoryRead.Refused registerOrMemoryValues (λ x n. refl) (λ e n. refl) (registerOrMemory mode rm) l
+    (takes-register-or-memory mode rm)
+
+abbrev whenGot : ModRM → ℕ → MrrmRead
+whenGot m n = MrrmRead.Got (m .mrrm) (m .byte) n
+
+pub mrrm : (l : List ℕ) → OfReader (length l) (mrrmValues (mrrmRead (readFrom aModRM l)))
+mrrm l = answer-says whenGot MrrmRead.Refused mrrmValues (λ m n. refl) (λ e n. refl) aModRM l takes-modrm
+
+pub mrrm-outside : (s : List ℕ) (at : ℕ) → length s < at → mrrmValues (mrrmRead (readAt aModRM s at)) ≡ carrying 11 0 0 0
+mrrm-outside s at h = outside-says whenGot MrrmRead.Refused mrrmValues (λ m n. refl) (λ e n. refl) aModRM s at h
+
+pub mrrm-inside : (s : List ℕ) (at : ℕ) → at ≤ length s → OfReader (length s - at) (mrrmValues (mrrmRead (readAt aModRM s at)))
+mrrm-inside s at h = inside-says whenGot MrrmRead.Refused mrrmValues (λ m n. refl) (λ e n. refl) aModRM s at h takes-modrm
+
+-- it holds the position behind the bytes taken
+pub back : (at n : ℕ) → at + n - at ≡ n
+back at n = omega arith
+
+pub operand : (size : OperandSize) (at : ℕ) (l : List ℕ) → OfReader (length l) (operandValues at (operandRead size at (readFrom aModRM l)))
+operand size at l =
+    answer-says (λ m n. OperandRead.Got (operandOf size (m .mrrm .«register_or_memory»)) (at + n) (m .byte)) (λ e n. OperandRead.Refused e (at + n)) (operandValues at)
+    (λ m n. ap (λ k. carrying 0 0 k 0) (back at n)) (λ e n. ap (λ k. refusedWith e k 0) (back at n)) aModRM l takes-modrm
