@@ -1,11 +1,13 @@
--- What the form readers settle: each promise has exactly one answer.
+-- What the form readers settle: each promise has exactly one answer, and what it carries.
 -- Assumes nothing.
 use Prim.Native.Nat.{ℕ}
 use mathlib.Core.Path.{_≡_}
 use mathlib.Core.List.{List}
+use lib.ListN.{length}
 use Rattle.mrc_instruction.specs.declared.operand.OperandSize.{OperandSize}
 use Rattle.mrc_instruction.specs.declared.operation.Operation.{Operation}
 use Rattle.mrc_instruction.specs.Reading.{Reading, Outcome, readFrom}
+use Rattle.mrc_instruction.specs.Values.{outcomeValues, OfReader}
 use Rattle.mrc_instruction.specs.Promise.{ExactlyOne}
 use Rattle.mrc_instruction.proofs.Unique.{exactly-one}
 use Rattle.mrc_rules.specs.declared.Answer.{Answer}
@@ -13,9 +15,10 @@ use Rattle.mrc_rules.specs.Forms.{Tail, Row, anImmediate, aDisplacement, arithm
 use Rattle.mrc_forms.specs.declared.answers.FormRead.{FormRead}
 use Rattle.mrc_forms.specs.declared.traits.ImmediateRead.{ImmediateRead}
 use Rattle.mrc_forms.specs.declared.traits.DisplacementRead.{DisplacementRead}
-use Rattle.mrc_forms.specs.Behind.{alone, readBy, formRead}
+use Rattle.mrc_forms.specs.Behind.{alone, readBy, formRead, formValues}
 use Rattle.mrc_forms.specs.Groups.{jumpOf, immediateOperation}
-use Rattle.mrc_forms.specs.Traits.{sizeBy, immediateRead, displacementRead}
+use Rattle.mrc_forms.specs.Traits.{sizeBy, immediateRead, immediateValues, displacementRead, displacementValues}
+use Rattle.mrc_forms.proofs.Values as says
 
 -- a form's function, whatever the row, the opcode and the bytes behind it
 pub form-settled : (opcode : ℕ) (row : Row) (l : List ℕ) → ExactlyOne (λ (r : Answer). r ≡ readBy opcode row l)
@@ -35,6 +38,15 @@ immediate-settled size l = exactly-one (immediateRead (readFrom (anImmediate siz
 pub displacement-settled : (size : OperandSize) (l : List ℕ)
     → ExactlyOne (λ (r : DisplacementRead). r ≡ displacementRead (readFrom (aDisplacement size) l))
 displacement-settled size l = exactly-one (displacementRead (readFrom (aDisplacement size) l))
+
+-- in numbers: they took what they read, or refuse with 2 and took all that was left; and a form's answer behind a ModRM carries what its outcome does
+pub readers-carry : (size : OperandSize) (l : List ℕ)
+    → OfReader (length l) (immediateValues (immediateRead (readFrom (anImmediate size) l)))
+    × OfReader (length l) (displacementValues (displacementRead (readFrom (aDisplacement size) l)))
+readers-carry size l = (says.immediate size l, says.displacement size l)
+
+pub behind-carries : (at : ℕ) (o : Outcome Tail) → formValues at (formRead at o) ≡ outcomeValues o
+behind-carries = says.form
 
 -- an answer with no prefix, the size that a bit names, and the operation of each group
 pub answer-settled : (o : Outcome Tail) → ExactlyOne (λ (r : Answer). r ≡ alone o)

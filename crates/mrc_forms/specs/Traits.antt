@@ -1,4 +1,4 @@
--- "w is bit 0 (0 Byte, 1 Word)"; and what the readers of immediates and displacements answer.
+-- "w is bit 0 (0 Byte, 1 Word)"; and what the readers of immediates and displacements answer, in numbers too.
 use Prim.Native.Nat.{ℕ, _%_}
 use mathlib.Core.Bool.{cond}
 use lib.Dec.{eqb}
@@ -6,6 +6,7 @@ use Rattle.mrc_instruction.specs.declared.operand.OperandSize.{OperandSize}
 use Rattle.mrc_instruction.specs.declared.operand.Immediate.{Immediate}
 use Rattle.mrc_instruction.specs.declared.operand.Displacement.{Displacement}
 use Rattle.mrc_instruction.specs.Reading.{Outcome}
+use Rattle.mrc_instruction.specs.Values.{Values, carrying, refusedWith}
 use Rattle.mrc_instruction.specs.Read.{answered}
 use Rattle.mrc_forms.specs.declared.traits.ImmediateRead.{ImmediateRead}
 use Rattle.mrc_forms.specs.declared.traits.DisplacementRead.{DisplacementRead}
@@ -16,5 +17,13 @@ sizeBy bits = cond (eqb (bits % 2) 0) OperandSize.Byte OperandSize.Word
 abbrev pub immediateRead : Outcome Immediate → ImmediateRead
 immediateRead = answered ImmediateRead.Got ImmediateRead.Refused
 
+abbrev pub immediateValues : ImmediateRead → Values
+immediateValues (ImmediateRead.Got i n) = carrying 0 0 n 0
+immediateValues (ImmediateRead.Refused e n) = refusedWith e n 0
+
 abbrev pub displacementRead : Outcome Displacement → DisplacementRead
 displacementRead = answered DisplacementRead.Got DisplacementRead.Refused
+
+abbrev pub displacementValues : DisplacementRead → Values
+displacementValues (DisplacementRead.Got d n) = carrying 0 0 n 0
+displacementValues (DisplacementRead.Refused e n) = refusedWith e n 0
