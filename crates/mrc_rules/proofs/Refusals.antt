@@ -13,9 +13,10 @@ use lib.ListN.{length, getD, drop}
 use lib.Seq.{getD-drop, drop-append-seam}
 use Rattle.mrc_instruction.specs.declared.errors.Refusal.{Refusal}
 use Rattle.mrc_instruction.specs.declared.instruction.OperandSet.{OperandSet}
+use Rattle.mrc_instruction.specs.Values.{carrying}
 use Rattle.mrc_instruction.specs.Reading.{Outcome, got, stopped, takenBy}
 use Rattle.mrc_rules.specs.declared.Answer.{Answer}
-use Rattle.mrc_rules.specs.Answer.{values, valuesOf}
+use Rattle.mrc_rules.specs.Answer.{valuesOf}
 use Rattle.mrc_rules.specs.Forms.{Tail}
 use Rattle.mrc_rules.specs.Prefixes.{isOverride, isRepeat, runOf, tailOf, first, repeatOf, under}
 use Rattle.mrc_rules.specs.Decode.{tail, resultOf, together, answer, decodeBy, decodeAt, rules}
@@ -26,7 +27,7 @@ use Rattle.mrc_rules.proofs.Tails.{Comes, isNone, tail-comes, Told, ver
 
 -- an instruction under an override reads where it has operands
 under-values : (o : ℕ) (r : Option ℕ) (i : Tail) (ops : OperandSet) (n p : ℕ)
-    → valuesOf (answer (under o (repeatOf r) i ops) n p) ≡ cond (isNone ops) (values 9 o n p) (values 0 0 n p)
+    → valuesOf (answer (under o (repeatOf r) i ops) n p) ≡ cond (isNone ops) (carrying 9 o n p) (carrying 0 0 n p)
 under-values o r i OperandSet.None n p = refl
 under-values o r i (OperandSet.Destination d) n p = refl
 under-values o r i (OperandSet.DestinationAndSource d s) n p = refl
@@ -58,7 +59,7 @@ result-values o r l t p told bare = rw (told .verdict-is, told .taken-is) (go o 
 -- within the budget
 list-values : (b : ℕ) (l : List ℕ) → Bytes l
     → valuesOf (decodeBy rules b l)
-    ≡ cond (ltb b (length (runOf l))) (values 10 (getD (runOf l) b 0) (b + 1) (b + 1))
+    ≡ cond (ltb b (length (runOf l))) (carrying 10 (getD (runOf l) b 0) (b + 1) (b + 1))
     (underPrefixes (first isOverride (runOf l)) (verdictOf (tailOf l)) (isBare (byteAt (tailOf l) 0)) (takenOf (tailOf l)) (length (runOf l)))
 list-values b l bytes = go (leb (length (runOf l)) b) refl
   where
@@ -70,7 +71,7 @@ list-values b l bytes = go (leb (length (runOf l)) b) refl
 
     go : (t : Bool) → leb (length (runOf l)) b ≡ t
         → valuesOf (cond t (together rules (runOf l) (tail rules (tailOf l))) (Answer.Refused (Refusal.TooManyPrefixes (getD (runOf l) b 0)) (b + 1) (b + 1)))
-        ≡ cond (ltb b (length (runOf l))) (values 10 (getD (runOf l) b 0) (b + 1) (b + 1))
+        ≡ cond (ltb b (length (runOf l))) (carrying 10 (getD (runOf l) b 0) (b + 1) (b + 1))
         (underPrefixes (first isOverride (runOf l)) (verdictOf (tailOf l)) (isBare (byteAt (tailOf l) 0)) (takenOf (tailOf l)) (length (runOf l)))
     go true e =
         rw (le-ltb b (length (runOf l)) (leb-true (length (runOf l)) b e))

@@ -6,7 +6,7 @@ use mathlib.Core.List.{List, [], _∷_}
 use mathlib.Core.Option.{Option, none, some}
 use lib.Dec.{eqb, leb, ltb}
 use lib.ListN.{length, getD, drop}
-use Rattle.mrc_rules.specs.Answer.{Values, values}
+use Rattle.mrc_instruction.specs.Values.{Values, carrying}
 use Rattle.mrc_rules.specs.Prefixes.{isOverride, runOf, tailOf, first}
 use Rattle.mrc_rules.specs.Operands.{Places, nothing, only, _⟵_, test, places, byteAt, regAt}
 use Rattle.mrc_rules.specs.Lengths.{wholeLength}
@@ -64,16 +64,16 @@ isBare opcode = noPlaces (getD places opcode nothing)
 
 -- behind p prefixes, under the first override, if any: number 9 with the override where the tail is refused or has no operands
 abbrev pub underPrefixes : Option ℕ → Verdict → Bool → ℕ → ℕ → Values
-underPrefixes none read bare n p = values 0 0 (p + n) p
-underPrefixes none (refused number byte) bare n p = values number byte (p + n) p
-underPrefixes (some o) read bare n p = cond bare (values 9 o (p + n) p) (values 0 0 (p + n) p)
-underPrefixes (some o) (refused number byte) bare n p = values 9 o (p + n) p
+underPrefixes none read bare n p = carrying 0 0 (p + n) p
+underPrefixes none (refused number byte) bare n p = carrying number byte (p + n) p
+underPrefixes (some o) read bare n p = cond bare (carrying 9 o (p + n) p) (carrying 0 0 (p + n) p)
+underPrefixes (some o) (refused number byte) bare n p = carrying 9 o (p + n) p
 
 -- at a position, under a budget: 11 first, then 10, then as the bytes are read
 abbrev pub tabled : List ℕ → ℕ → ℕ → Values
 tabled s at b =
     let run = runOf (drop at s) in
     let l = tailOf (drop at s) in
-    cond (ltb (length s) at) (values 11 0 0 0)
-    (cond (ltb b (length run)) (values 10 (getD run b 0) (b + 1) (b + 1))
+    cond (ltb (length s) at) (carrying 11 0 0 0)
+    (cond (ltb b (length run)) (carrying 10 (getD run b 0) (b + 1) (b + 1))
     (underPrefixes (first isOverride run) (verdictOf l) (isBare (byteAt l 0)) (takenOf l) (length run)))
