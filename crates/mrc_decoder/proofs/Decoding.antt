@@ -15,7 +15,7 @@ use Rattle.mrc_instruction.specs.declared.operand.OperandSize.{OperandSize}
 use Rattle.mrc_rules.specs.declared.Answer.{Answer}
 use Rattle.mrc_decoder.specs.declared.form.OpcodeAlone.{OpcodeAlone}
 use Rattle.mrc_decoder.specs.declared.form.WithModRM.{WithModRM}
-use Rattle.mrc_decoder.specs.Form.{Meaning, overrides, repeats, reads, nothing, meaningOf, aloneRow, modRMMeant, modRMReading}
+use Rattle.mrc_decoder.specs.Form.{Agrees, Meaning, overrides, repeats, reads, nothing, meaningOf, aloneRow, modRMMeant, modRMReading}
 use Rattle.mrc_instruction.specs.Reading.{readFrom}
 use Rattle.mrc_instruction.proofs.Rest.{here, none}
 use Rattle.mrc_rules.specs.Forms.{Row}
@@ -24,7 +24,7 @@ use Rattle.mrc_rules.specs.Prefixes.{isOverride, isRepeat, isPrefix, repeatOf}
 use Rattle.mrc_rules.specs.Decode.{decodeBy, decodeAt, rules}
 use Rattle.mrc_forms.specs.Behind.{behind, readBy}
 use Rattle.mrc_decoder.specs.Wrap.{Small, underOverride, withRepeat, tooMany, pastEnd}
-use Rattle.mrc_decoder.proofs.ModRM.{Agrees, modrm-agrees}
+use Rattle.mrc_decoder.proofs.ModRM.{modrm-agrees}
 use Rattle.mrc_decoder.proofs.Steps.{step-end, step-tail, step-over, override-prefix, repeat-prefix}
 use Rattle.mrc_decoder.proofs.Wrapping.{override-wraps, repeat-wraps}
 use Rattle.mrc_rules.proofs.Counting.{taken-there, prefixes-there}

@@ -30,7 +30,7 @@ use Rattle.mrc_forms.specs.Behind.{behind, formRead, popBehind}
 use Rattle.mrc_pairs.specs.declared.common.Direction.{Direction}
 use Rattle.mrc_pairs.specs.Common.{dBit, regFirst, registerBehind, segmentBehind}
 use Rattle.mrc_decoder.specs.declared.form.WithModRM.{WithModRM}
-use Rattle.mrc_decoder.specs.Form.{Meaning, overrides, repeats, reads, nothing, modRMMeant, modRMReading}
+use Rattle.mrc_decoder.specs.Form.{Agrees, modRMMeant, modRMReading}
 
 -- two readings that agree behind every ModRM that is read; its register is what reg names
 module _ (f g : ModRM → Reading Tail) (h : (b : ℕ) (x : RegisterOrMemory) → f (modRM b x) ≡ g (modRM b x)) where
@@ -55,13 +55,6 @@ module _ (f g : ModRM → Reading Tail) (h : (b : ℕ) (x : RegisterOrMemory) �
   unfolding aByte
   by-reg [] = refl
   by-reg (b ∷ l) = ap more (behind-byte b l)
-
--- a meaning reads what a reading reads
-abbrev pub Agrees : ℕ → Meaning → Reading Tail → Type 0
-Agrees opcode overrides r = ⊥
-Agrees opcode repeats r = ⊥
-Agrees opcode (reads row) r = (l : List ℕ) → readFrom (rest opcode row) l ≡ readFrom r l
-Agrees opcode nothing r = Unit {0}
 
 pub modrm-agrees : (form : WithModRM) (size : OperandSize) (opcode : ℕ) → Agrees opcode (modRMMeant form size opcode) (modRMReading form size opcode)
 modrm-agrees WithModRM.Pop Word opcode = λ l. refl

@@ -1,14 +1,16 @@
 -- The form of a first byte: what the byte means, and what a form with a ModRM reads.
 use Prim.Native.Nat.{ℕ, _/_, _%_}
+use mathlib.Core.Path.{_≡_}
 use mathlib.Core.Bool.{cond}
+use mathlib.Core.List.{List}
 use lib.Dec.{ltb}
 use Rattle.mrc_instruction.specs.declared.operand.OperandSize.{OperandSize}
 use Rattle.mrc_instruction.specs.declared.operand.OperandSize.the-variants.{Byte, Word}
 use Rattle.mrc_instruction.specs.declared.operand.Operand.{Operand}
 use Rattle.mrc_instruction.specs.Register.{registerOf, segmentOf}
-use Rattle.mrc_instruction.specs.Reading.{Reading, done, _>>=_}
+use Rattle.mrc_instruction.specs.Reading.{Reading, done, _>>=_, readFrom}
 use Rattle.mrc_instruction.specs.Mrrm.{aModRM}
-use Rattle.mrc_rules.specs.Forms.{Row, Tail, invalid, bare, accImmediate, onSegment, onRegister, jump, groupByteToWord, popRm, exchange, far, registerImmediate, shiftImmediate, onImmediate, escape, inPort, outPort, inDx, outDx, unary, incDec, arithmetic, one, rm, incOrDec, unaryBy}
+use Rattle.mrc_rules.specs.Forms.{Row, Tail, invalid, bare, accImmediate, onSegment, onRegister, jump, groupByteToWord, popRm, exchange, far, registerImmediate, shiftImmediate, onImmediate, escape, inPort, outPort, inDx, outDx, unary, incDec, arithmetic, one, rest, rm, incOrDec, unaryBy}
 use Rattle.mrc_rules.specs.Table.{rowOf}
 use Rattle.mrc_rules.specs.Prefixes.{isOverride, isRepeat}
 use Rattle.mrc_forms.specs.Behind.{popBehind}
@@ -81,6 +83,13 @@ modRMBehind (WithModRM.ImmediateToRegisterOrMemory group) size opcode operand by
 modRMBehind WithModRM.ByteToRegisterOrMemory size opcode operand byte = byteBehind operand byte
 modRMBehind WithModRM.ShiftByImmediate size opcode operand byte = shiftBehind operand byte
 modRMBehind WithModRM.ShiftByCount size opcode operand byte = done (countBehind opcode size operand byte)
+
+-- a meaning reads what a reading reads
+abbrev pub Agrees : ℕ → Meaning → Reading Tail → Type 0
+Agrees opcode overrides r = ⊥
+Agrees opcode repeats r = ⊥
+Agrees opcode (reads row) r = (l : List ℕ) → readFrom (rest opcode row) l ≡ readFrom r l
+Agrees opcode nothing r = Unit {0}
 
 -- the whole of it: the ModRM, and what is read behind it
 abbrev pub modRMReading : WithModRM → OperandSize → ℕ → Reading Tail

@@ -1,27 +1,15 @@
--- What is shown of the names. Each theorem cites its law.
+-- What is shown of the names. Each promise is an equation, so exactly one answer meets it (`an-equation-settles` of mrc_instruction).
 -- Assumes nothing.
 use mathlib.Core.Path.{_≡_, refl}
-use mathlib.Core.List.{List, []}
+use mathlib.Core.List.{[]}
 use Prim.Native.Nat.{ℕ, _<_}
 use lib.ListN.{length, getD}
 use Rattle.mrc_instruction.specs.declared.operation.Operation.{Operation}
-use Rattle.mrc_instruction.specs.Promise.{ExactlyOne}
-use Rattle.mrc_instruction.proofs.Unique.{exactly-one}
 use Rattle.mrc_names.specs.Text.{trimmed}
 use Rattle.mrc_names.specs.Names.{operations, nameOf, rowOf, nameTable}
 use Rattle.mrc_names.specs.Places.{placeOf}
 use Rattle.mrc_names.proofs.Placed as Placed
 use Rattle.mrc_names.proofs.Rows as Rows
-
--- exactly one answer meets the promise of each public function
-pub table : ExactlyOne (λ (r : List (List ℕ)). r ≡ nameTable)
-table = exactly-one nameTable
-
-pub place : (o : Operation) → ExactlyOne (λ (r : ℕ). r ≡ placeOf o)
-place o = exactly-one (placeOf o)
-
-pub letters : (row : List ℕ) → ExactlyOne (λ (r : ℕ). r ≡ length (trimmed row))
-letters row = exactly-one (length (trimmed row))
 
 -- each operation has a place of its own among the 97, and they are in order
 pub within : (o : Operation) → placeOf o < 97

@@ -1,6 +1,5 @@
--- What the forms of a destination and a source settle: the order of the two, where a bit turns it, all else alike; and behind a ModRM
--- exactly one answer.
--- That exactly one answer meets each promise: `form-settled`, `behind-settled` and `got-settled` of mrc_forms.
+-- The order of destination and source, where a bit turns it, all else alike. Each promise is an equation, so exactly one answer meets it
+-- (`an-equation-settles` of mrc_instruction).
 -- Assumes nothing.
 use Prim.Native.Nat.{ℕ}
 use mathlib.Core.Path.{_≡_, refl}

@@ -1,10 +1,10 @@
 -- What each row of the table comes to: the operands, the operation, the length and the refusals of its account.
 -- Assumes nothing.
 use borrow.Author.Tests.{ne-eqb}
-use mathlib.Core.Path.{_≡_, refl, ap, ap₂, sym, subst, _∙_}
-use mathlib.Core.Bool.{Bool, true, false, cond}
+use mathlib.Core.Path.{_≡_, refl, ap, ap₂, sym, _∙_}
+use mathlib.Core.Bool.{Bool, false, cond}
 use mathlib.Core.List.{List, [], _∷_, _++_, map}
-use mathlib.Core.Option.{Option, none, some}
+use mathlib.Core.Option.{none, some}
 use Prim.Native.Nat.{ℕ, zero, suc, _+_, _<_}
 use native.Mathlib.Omega.{arith}
 use lib.Dec.{eqb, ltb}
@@ -21,13 +21,13 @@ use Rattle.mrc_instruction.specs.Errors.{numberOf, byteOf}
 use Rattle.mrc_instruction.specs.Reading.{Reading, done, refuse, _>>=_, aByte, aWord}
 use Rattle.mrc_instruction.specs.Mrrm.{ModRM, aModRM, regField}
 use Rattle.mrc_instruction.specs.Instruction.{plain}
-use Rattle.mrc_rules.specs.Forms.{Tail, Row, rest, one, two, register, acc, anImmediate, aDisplacement, rm, reg, arithmetic, shift, incOrDec, unaryOperation, unaryBy, bare, prefix, invalid, rmReg, regRm, accImmediate, onSegment, onRegister, jump, groupImmediate, groupByteToWord, popRm, rmSegment, segmentRm, exchange, far, accDirect, directAcc, registerImmediate, shiftImmediate, shiftOne, shiftCl, onImmediate, moveImmediate, escape, inPort, outPort, inDx, outDx, unary, incDec}
-use Rattle.mrc_rules.specs.Operands.{RM, REG, SEGREG, IMMED, REL, ZERO16, Places, only, _⟵_, test, byteAt, operandAt, operandsAt}
+use Rattle.mrc_rules.specs.Forms.{Tail, Row, rest, one, two, register, acc, anImmediate, aDisplacement, rm, arithmetic, shift, incOrDec, unaryBy, bare, prefix, invalid, rmReg, regRm, accImmediate, onSegment, onRegister, jump, groupImmediate, groupByteToWord, popRm, rmSegment, segmentRm, exchange, far, accDirect, directAcc, registerImmediate, shiftImmediate, shiftOne, shiftCl, onImmediate, moveImmediate, escape, inPort, outPort, inDx, outDx, unary, incDec}
+use Rattle.mrc_rules.specs.Operands.{RM, SEGREG, IMMED, REL, ZERO16, Places, only, _⟵_, test, operandAt, operandsAt}
 use Rattle.mrc_rules.specs.Operations.{Mnemonic, the, byReg, nameAt}
 use Rattle.mrc_rules.specs.Operations as op
-use Rattle.mrc_rules.specs.Lengths.{fixed, modRM, tested, displacementBytes, lengthBy}
+use Rattle.mrc_rules.specs.Lengths.{fixed, modRM, tested, lengthBy}
 use Rattle.mrc_rules.specs.Refusals.{read, refused}
-use Rattle.mrc_rules.proofs.Along.{Along, along-bind, along-cond}
+use Rattle.mrc_rules.proofs.Along.{along-bind, along-cond}
 use Rattle.mrc_rules.proofs.Accounts.{Account, account, accountOf, Bar, free, popped, segment, grouped, verdictBy, bytesIn}
 use Rattle.mrc_rules.proofs.Places.{Followed, at-end, Says, by-segment, Waits, RefusedBy, ReadBy, Walk, Modrm, modrm-along, byte-along, immediate-along, displacement-along}
 

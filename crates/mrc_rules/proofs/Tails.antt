@@ -4,11 +4,11 @@ use mathlib.Core.Path.{_≡_, refl, ap, sym, subst, _∙_}
 use mathlib.Core.Logic.{_⊎_, inl, inr, ⊎-elim}
 use mathlib.Core.Bool.{Bool, true, false, cond}
 use mathlib.Core.List.{List, [], _∷_, _++_}
-use mathlib.Core.Option.{Option, some}
-use Prim.Native.Nat.{ℕ, suc, _+_, _≤_, _<_, min}
+use mathlib.Core.Option.{some}
+use Prim.Native.Nat.{ℕ, suc, _+_, _≤_, _<_}
 use native.Mathlib.Omega.{arith}
 use borrow.Author.Tests.{lt-ltb, le-ltb}
-use lib.Dec.{ltb, eqb}
+use lib.Dec.{eqb}
 use lib.ListN.{length, getD, take, drop, take-append-drop}
 use lib.Seq.{length-take-le}
 use Rattle.mrc_instruction.specs.declared.errors.Refusal.{Refusal}
@@ -18,11 +18,10 @@ use Rattle.mrc_instruction.specs.Reading.{Outcome, got, stopped, takenBy, more,
 use Rattle.mrc_instruction.proofs.Then.{taken-le}
 use Rattle.mrc_rules.specs.Forms.{Tail, rest}
 use Rattle.mrc_rules.specs.Table.{rowOf}
-use Rattle.mrc_rules.specs.Prefixes.{isPrefix}
 use Rattle.mrc_rules.specs.Decode.{tail, rules}
 use Rattle.mrc_rules.specs.Striking.{NoPrefix}
 use Rattle.mrc_rules.specs.Operands.{Places, nothing, only, _⟵_, test, places, byteAt, regAt, operandAt, operandsAt, operandsOf}
-use Rattle.mrc_rules.specs.Operations.{Mnemonic, nameAt, operationOf}
+use Rattle.mrc_rules.specs.Operations.{nameAt, operationOf}
 use Rattle.mrc_rules.specs.Lengths.{Extra, lengthBy, wholeLength}
 use Rattle.mrc_rules.specs.Refusals.{Verdict, read, refused, byOpcode, verdictOf, takenOf, noPlaces, isBare}
 use Rattle.mrc_rules.proofs.Along.{Holds, along}
