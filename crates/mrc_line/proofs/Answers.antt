@@ -1,24 +1,44 @@
--- The answers of a line call, by the tests that lead to each; and that the promise settles the answer and the buffer.
+-- The answers of a line call, by the tests that lead to each, with what they carry; and what an answer tells of the line.
 -- Assumes nothing.
 use mathlib.Core.Path.{_≡_, refl, sym, ap, _∙_}
 use mathlib.Core.Bool.{Bool, true, false, cond}
 use mathlib.Core.List.{List, _++_}
 use Prim.Native.Nat.{ℕ, _<_, _≤_}
 use native.Mathlib.Omega.{arith}
-use borrow.Author.Tests.{ltb-true, ltb-false, lt-ltb, le-ltb, eq-eqb, ne-eqb}
+use lib.Arith.{lt-of-le-ne}
+use borrow.Author.Tests.{ltb-true, ltb-false, lt-ltb, le-ltb, eq-eqb, ne-eqb, eqb-false}
 use lib.Dec.{ltb, eqb}
 use lib.ListN.{length, drop, take-append-drop}
 use Rattle.mrc_instruction.specs.declared.errors.Refusal.{Refusal}
 use Rattle.mrc_instruction.specs.declared.errors.Refusal.the-variants.{ImageTooLong, OutsideInput, EndOfInput, NoRoom}
+use Rattle.mrc_instruction.specs.Values.{carrying}
+use Rattle.mrc_line.specs.declared.line.LineAnswer.{LineAnswer}
 use Rattle.mrc_line.specs.declared.line.LineAnswer.the-variants.{Line, Refused}
 use Rattle.mrc_line.specs.Text.{Put}
 use Rattle.mrc_line.specs.Target.{offsets}
-use Rattle.mrc_line.specs.Line.{lineText, lineTaken, answerOf, after, Listed}
+use Rattle.mrc_line.specs.Line.{lineText, lineTaken, linePrefixes, answerOf, lineValues, valuesAt, after, Listed}
+
+-- each answer carries what its row of the table has
+values-by :
+    (s : List ℕ) (at len taken : ℕ) (a b c d : Bool) →
+    lineValues s at (cond a (Refused ImageTooLong) (cond b (Refused OutsideInput) (cond c (Refused EndOfInput) (cond d (Refused NoRoom) (Line len taken)))))
+    ≡ cond a (carrying 13 0 0 0) (cond b (carrying 11 0 0 0) (cond c (carrying 1 0 0 0) (cond d (carrying 12 0 0 0) (carrying 0 0 taken (linePrefixes s at)))))
+values-by s at len taken true b c d = refl
+values-by s at len taken false true c d = refl
+values-by s at len taken false false true d = refl
+values-by s at len taken false false false true = refl
+values-by s at len taken false false false false = refl
+
+pub line-values : (s : List ℕ) (at room : ℕ) {r : LineAnswer} → r ≡ answerOf s at room → lineValues s at r ≡ valuesAt s at room
+unfolding answerOf valuesAt
+line-values s at room e =
+    ap (lineValues s at) e
+    ∙ values-by s at (length (lineText s at)) (lineTaken s at) (ltb offsets (length s)) (ltb (length s) at) (eqb (length s) at) (ltb room (length (lineText s at)))
 
 module _ (s : List ℕ) (at : ℕ) (out : List ℕ) where
   -- a refusal, with the buffer as it was
   pub refused : (e : Refusal) → Refused e ≡ answerOf s at (length out) → Listed s at out (Refused e) out
-  refused e h = record { answer = h; bytes = ap (λ a. after a (lineText s at) out) h }
+  refused e h = record { answer = h; values = line-values s at (length out) h; bytes = ap (λ a. after a (lineText s at) out) h }
 
   pub too-long : offsets < length s → Refused ImageTooLong ≡ answerOf s at (length out)
   unfolding answerOf
@@ -51,6 +71,7 @@ module _ (s : List ℕ) (at : ℕ) (out : List ℕ) where
           let a : Line len taken ≡ answerOf s at (length out) = ap (λ x. Line x taken) e ∙ ap (Line (length (lineText s at))) g ∙ room l in
           record {
             answer = a;
+            values = line-values s at (length out) a;
             bytes =
                 sym (take-append-drop r done) ∙ ap (λ (u : List ℕ). u ++ drop r done) (p .text) ∙ ap (λ (u : List ℕ). lineText s at ++ u) (p .rest)
                 ∙ ap (λ (m : ℕ). lineText s at ++ drop m out) (sym f) ∙ ap (λ x. after x (lineText s at) out) a;
@@ -58,26 +79,27 @@ module _ (s : List ℕ) (at : ℕ) (out : List ℕ) where
 
 -- what an answer tells of the line
 pub record Told (s : List ℕ) (at room len taken : ℕ) : Type 0 where
+  pub inside : at < length s
   pub len-is : len ≡ length (lineText s at)
   pub taken-is : taken ≡ lineTaken s at
   pub fits : length (lineText s at) ≤ room
 
 told-by :
-    (s : List ℕ) (at room len taken : ℕ) (a b c d : Bool) → (d ≡ false → length (lineText s at) ≤ room) →
+    (s : List ℕ) (at room len taken : ℕ) (a b c d : Bool) → (b ≡ false → c ≡ false → at < length s) → (d ≡ false → length (lineText s at) ≤ room) →
     Line len taken
     ≡ cond a (Refused ImageTooLong) (cond b (Refused OutsideInput) (cond c (Refused EndOfInput) (cond d (Refused NoRoom) (Line (length (lineText s at)) (lineTaken s at))))) →
     Told s at room len taken
-told-by s at room len taken true b c d f e = let z : _≡_ {A = ℕ} 0 1 = cc in absurd (omega arith)
-told-by s at room len taken false true c d f e = let z : _≡_ {A = ℕ} 0 1 = cc in absurd (omega arith)
-told-by s at room len taken false false true d f e = let z : _≡_ {A = ℕ} 0 1 = cc in absurd (omega arith)
-told-by s at room len taken false false false true f e = let z : _≡_ {A = ℕ} 0 1 = cc in absurd (omega arith)
-told-by s at room len taken false false false false f e = record { len-is = cc; taken-is = cc; fits = f refl }
+told-by s at room len taken true b c d i f e = let z : _≡_ {A = ℕ} 0 1 = cc in absurd (omega arith)
+told-by s at room len taken false true c d i f e = let z : _≡_ {A = ℕ} 0 1 = cc in absurd (omega arith)
+told-by s at room len taken false false true d i f e = let z : _≡_ {A = ℕ} 0 1 = cc in absurd (omega arith)
+told-by s at room len taken false false false true i f e = let z : _≡_ {A = ℕ} 0 1 = cc in absurd (omega arith)
+told-by s at room len taken false false false false i f e = record { inside = i refl refl; len-is = cc; taken-is = cc; fits = f refl }
 
 pub told : (s : List ℕ) (at room len taken : ℕ) → Line len taken ≡ answerOf s at room → Told s at room len taken
 unfolding answerOf
 told s at room len taken e =
     told-by s at room len taken (ltb offsets (length s)) (ltb (length s) at) (eqb (length s) at) (ltb room (length (lineText s at)))
-    (λ d. ltb-false room (length (lineText s at)) d) e
+    (λ b c. lt-of-le-ne (ltb-false (length s) at b) (λ h. eqb-false (length s) at c (sym h))) (λ d. ltb-false room (length (lineText s at)) d) e
 
 -- within an image that is not too long, only room is a reason to refuse
 lacks-by :

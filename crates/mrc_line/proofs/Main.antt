@@ -2,7 +2,7 @@
 -- Assumes nothing.
 use mathlib.Core.Path.{_≡_}
 use mathlib.Core.List.{List, _++_, map}
-use Prim.Native.Nat.{ℕ, _<_, _≤_}
+use Prim.Native.Nat.{ℕ, _*_, _<_, _≤_}
 use native.Mathlib.Nat.{le-trans}
 use lib.ListN.{length}
 use Rattle.mrc_instruction.specs.declared.errors.Refusal.{Refusal}
@@ -14,7 +14,7 @@ use Rattle.mrc_line.specs.declared.page.Page.{Page}
 use Rattle.mrc_line.specs.Text.{bytes}
 use Rattle.mrc_line.specs.Target.{offsets, targetOf}
 use Rattle.mrc_line.specs.Line.{lineText, lineEnd, longest, Listed}
-use Rattle.mrc_line.specs.Page.{linesOf, textOf, bytesOf, takenOf, pagesFrom, Paged}
+use Rattle.mrc_line.specs.Page.{linesOf, textOf, bytesOf, takenOf, pageOf, pagesFrom, Paged}
 use Rattle.mrc_line.proofs.Settled as Settled
 use Rattle.mrc_line.proofs.Lengths as Lengths
 use Rattle.mrc_line.proofs.Lines as Lines
@@ -38,6 +38,12 @@ refused-unchanged = Settled.unchanged
 -- no line is longer than `longest`
 pub line-longest : (image : List ℕ) (at : ℕ) → length (lineText image at) ≤ longest
 line-longest = Lengths.line-longest
+
+-- a page has at most `longest` bytes of text for each byte of the image that it accounts for, and accounts for at most `offsets`
+pub page-short :
+    (image : List ℕ) (at room : ℕ) → let page = pageOf image at room in
+    (length (textOf image page) ≤ longest * takenOf image page) × (takenOf image page ≤ offsets)
+page-short image at room = let k = Pages.page-short image at room in (k .text, k .taken)
 
 -- "Over an image, the bytes accounted for by all lines add up to its length, each byte once."
 pub each-byte-once : (image : List ℕ) → bytesOf image (linesOf image) ≡ image

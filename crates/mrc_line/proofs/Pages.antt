@@ -1,17 +1,18 @@
--- Pages joined are the listing: what a page leaves out is what the lines from its end on are.
+-- Pages joined are the listing: what a page leaves out is what the lines from its end on are. And how much a page has of text and of the image.
 -- Assumes nothing.
 use mathlib.Core.Path.{_≡_, refl, sym, ap, _∙_}
 use mathlib.Core.Bool.{Bool, true, false, cond}
 use mathlib.Core.List.{List, [], _∷_, _++_, append-assoc}
-use Prim.Native.Nat.{ℕ, zero, suc, _+_, _-_, _<_, _≤_}
+use Prim.Native.Nat.{ℕ, zero, suc, _+_, _*_, _-_, _<_, _≤_}
 use native.Mathlib.Omega.{arith}
 use borrow.Author.Tests.{le-ltb, lt-ltb, le-leb, lt-leb, ltb-true, ltb-false}
 use lib.Dec.{ltb, leb}
-use lib.ListN.{length}
+use lib.ListN.{length, length-append}
 use Rattle.mrc_line.specs.Target.{offsets}
-use Rattle.mrc_line.specs.Line.{lineText, lineTaken}
+use Rattle.mrc_line.specs.Line.{lineText, lineTaken, longest}
 use Rattle.mrc_line.specs.Page.{linesFrom, linesOf, textOf, takenOf, fitting, pageOf, pagesFrom}
 use Rattle.mrc_line.proofs.Takes.{Takes, line-takes}
+use Rattle.mrc_line.proofs.Lengths.{line-longest}
 use Rattle.mrc_line.proofs.Lines.{lines-more, lines-past, along, enough}
 
 -- a line that fits, and one that does not
@@ -82,3 +83,44 @@ module _ (s : List ℕ) (room : ℕ) (short : length s ≤ offsets) (every : (at
 
   pub pages-joined : pagesFrom (length s) s 0 room ≡ textOf s (linesOf s)
   pages-joined = pages-from (length s) 0 (omega arith)
+
+-- lines that account for no more than so many bytes, and have at most `longest` bytes of text for each
+pub record Short (s : List ℕ) (most : ℕ) (lines : List ℕ) : Type 0 where
+  pub text : length (textOf s lines) ≤ longest * takenOf s lines
+  pub taken : takenOf s lines ≤ most
+
+abbrev ShortFrom : List ℕ → ℕ → ℕ → Type 0
+ShortFrom s f at = (room : ℕ) → Short s (length s - at) (fitting s room (linesFrom f s at))
+
+none-short : (s : List ℕ) (most : ℕ) → Short s most []
+none-short s most = record { text = omega arith; taken = omega arith }
+
+short-from : (s : List ℕ) (f at : ℕ) → length s ≤ at + f → ShortFrom s f at
+short-from s f at h = along s (ShortFrom s) past more f at h
+  where
+    past : (f at : ℕ) → length s ≤ at → ShortFrom s f at
+    past f at h room = rw (lines-past f s at h) (none-short s (length s - at))
+
+    more : (f at : ℕ) → at < length s → length s ≤ at + suc f → Takes s at (lineTaken s at) → ShortFrom s f (at + lineTaken s at) → ShortFrom s (suc f) at
+    more f at l h t i room = rw (lines-more f s at l) (go (leb (length (lineText s at)) room))
+      where
+        go : (b : Bool) → Short s (length s - at) (cond b (at ∷ fitting s (room - length (lineText s at)) (linesFrom f s (at + lineTaken s at))) [])
+        go true =
+            let some = fitting s (room - length (lineText s at)) (linesFrom f s (at + lineTaken s at)) in
+            let k = i (room - length (lineText s at)) in
+            record {
+              text = omega (arith, k .text, t .some, line-longest s at, length-append (lineText s at) (textOf s some));
+              taken = omega (arith, k .taken, t .inside);
+            }
+        go false = none-short s (length s - at)
+
+-- a page, which is empty where the image is too long
+pub page-short : (s : List ℕ) (at room : ℕ) → Short s offsets (pageOf s at room)
+unfolding pageOf
+page-short s at room = go (ltb offsets (length s)) refl
+  where
+    go : (b : Bool) → ltb offsets (length s) ≡ b → Short s offsets (cond b [] (fitting s room (linesFrom (length s) s at)))
+    go true e = none-short s offsets
+    go false e =
+        let k = short-from s (length s) at (omega arith) room in
+        record { text = k .text; taken = omega (arith, k .taken, ltb-false offsets (length s) e) }

@@ -15,6 +15,7 @@ use Rattle.mrc_line.specs.declared.page.Page.{Page}
 use Rattle.mrc_line.specs.Target.{offsets}
 use Rattle.mrc_line.specs.Line.{lineText, answerOf, after, Listed}
 use Rattle.mrc_line.specs.Page.{linesFrom, textOf, takenOf, fitting, pageOf, Paged}
+use Rattle.mrc_line.proofs.Answers.{line-values}
 use Rattle.mrc_line.proofs.Paging.{page-moves}
 
 pub line-settled : (s : List ℕ) (at : ℕ) (out : List ℕ) → ExactlyOne {A = LineAnswer × List ℕ} (λ p. Listed s at out (p .0) (p .1))
@@ -23,7 +24,7 @@ line-settled s at out =
     let d = after a (lineText s at) out in
     record {
       answer = (a, d);
-      meets = record { answer = refl; bytes = refl };
+      meets = record { answer = refl; values = line-values s at (length out) refl; bytes = refl };
       only = λ p l. ap (λ x. (x, p .1)) (l .answer) ∙ ap (λ x. (a, x)) (l .bytes);
     }
 

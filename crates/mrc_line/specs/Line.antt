@@ -1,4 +1,4 @@
--- "The listing line": its fields in order, and what a line call answers.
+-- "The listing line": its fields in order, and what a line call answers, in numbers too.
 use mathlib.Core.Path.{_≡_}
 use mathlib.Core.Bool.{cond}
 use mathlib.Core.List.{List, [], _∷_, _++_}
@@ -9,6 +9,7 @@ use Rattle.mrc_instruction.specs.declared.instruction.Repeat.{Repeat}
 use Rattle.mrc_instruction.specs.declared.instruction.Repeated.{Repeated}
 use Rattle.mrc_instruction.specs.declared.instruction.Instruction.{Instruction}
 use Rattle.mrc_instruction.specs.declared.errors.Refusal.{Refusal}
+use Rattle.mrc_instruction.specs.Values.{Values, carrying, refusedWith}
 use Rattle.mrc_names.specs.Names.{nameOf}
 use Rattle.mrc_rules.specs.declared.Answer.{Answer}
 use Rattle.mrc_rules.specs.Decode.{decodeAt}
@@ -50,6 +51,11 @@ abbrev pub stepTaken : Answer → ℕ
 stepTaken (Answer.Decoded i n p) = n
 stepTaken (Answer.Refused e n p) = 1
 
+-- the prefixes that a line shows: the instruction's, and none with a byte that is not decoded
+abbrev pub stepPrefixes : Answer → ℕ
+stepPrefixes (Answer.Decoded i n p) = p
+stepPrefixes (Answer.Refused e n p) = 0
+
 -- the line of what was decoded at a place of an image
 unfoldable pub stepText : List ℕ → ℕ → Answer → List ℕ
 stepText s at a = headText at (take (stepTaken a) (drop at s)) ++ (bodyText at (getD s at 0) a ++ lineEnd)
@@ -62,12 +68,15 @@ longest = 85
 abbrev pub budget : ℕ
 budget = 15
 
--- the line at a place of an image, and the bytes that it accounts for
+-- the line at a place of an image, the bytes that it accounts for, and its prefixes
 unfoldable pub lineText : List ℕ → ℕ → List ℕ
 lineText s at = stepText s at (decodeAt s at budget)
 
 unfoldable pub lineTaken : List ℕ → ℕ → ℕ
 lineTaken s at = stepTaken (decodeAt s at budget)
+
+unfoldable pub linePrefixes : List ℕ → ℕ → ℕ
+linePrefixes s at = stepPrefixes (decodeAt s at budget)
 
 -- "Order in a line call: 13, 11, 1 (position equal to the length), 12."; else the line's length and the bytes taken
 unfoldable pub answerOf : List ℕ → ℕ → ℕ → LineAnswer
@@ -78,6 +87,20 @@ answerOf s at room =
     (cond (ltb room (length (lineText s at))) (LineAnswer.Refused Refusal.NoRoom)
     (LineAnswer.Line (length (lineText s at)) (lineTaken s at)))))
 
+-- what an answer says in numbers, by the image and the place that were asked for
+abbrev pub lineValues : List ℕ → ℕ → LineAnswer → Values
+lineValues s at (LineAnswer.Line len taken) = carrying 0 0 taken (linePrefixes s at)
+lineValues s at (LineAnswer.Refused e) = refusedWith e 0 0
+
+-- the rows that the table of refusals has for a line call, in the order of their tests, and else a line's
+unfoldable pub valuesAt : List ℕ → ℕ → ℕ → Values
+valuesAt s at room =
+    cond (ltb offsets (length s)) (carrying 13 0 0 0)
+    (cond (ltb (length s) at) (carrying 11 0 0 0)
+    (cond (eqb (length s) at) (carrying 1 0 0 0)
+    (cond (ltb room (length (lineText s at))) (carrying 12 0 0 0)
+    (carrying 0 0 (lineTaken s at) (linePrefixes s at)))))
+
 -- what a buffer holds after an answer: the line, and "the buffer beyond the line unchanged"; "a refused line call changes no byte"
 abbrev pub after : LineAnswer → List ℕ → List ℕ → List ℕ
 after (LineAnswer.Line len taken) text out = text ++ drop len out
@@ -86,4 +109,5 @@ after (LineAnswer.Refused e) text out = out
 -- a line call's answer r, and its buffer before the call and after it
 pub record Listed (s : List ℕ) (at : ℕ) (out : List ℕ) (r : LineAnswer) (done : List ℕ) : Type 0 where
   pub answer : r ≡ answerOf s at (length out)
+  pub values : lineValues s at r ≡ valuesAt s at (length out)
   pub bytes : done ≡ after (answerOf s at (length out)) (lineText s at) out
