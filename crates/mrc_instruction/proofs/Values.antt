@@ -8,8 +8,12 @@ use mathlib.Core.List.{List}
 use Prim.Native.Nat.{ℕ, _+_, _-_, _<_, _≤_}
 use native.Mathlib.Omega.{arith}
 use borrow.Author.Tests.{le-leb, lt-leb}
+use lib.Dec.{ltb}
 use lib.ListN.{length, drop, length-drop}
 use Rattle.mrc_instruction.specs.declared.errors.Refusal.{Refusal}
+use Rattle.mrc_instruction.specs.declared.register.RegisterField.{RegisterField}
+use Rattle.mrc_instruction.specs.declared.register.SegmentField.{SegmentField}
+use Rattle.mrc_instruction.specs.declared.operand.AddressingField.{AddressingField}
 use Rattle.mrc_instruction.specs.declared.operand.OperandSize.{OperandSize}
 use Rattle.mrc_instruction.specs.declared.read.ByteRead.{ByteRead}
 use Rattle.mrc_instruction.specs.declared.read.WordRead.{WordRead}
@@ -18,8 +22,10 @@ use Rattle.mrc_instruction.specs.declared.mrrm.MrrmRead.{MrrmRead}
 use Rattle.mrc_instruction.specs.declared.mrrm.OperandRead.{OperandRead}
 use Rattle.mrc_instruction.specs.Reading.{Reading, Outcome, got, stopped, takenBy, readFrom, readAt, aByte, aWord}
 use Rattle.mrc_instruction.specs.Values.{Values, carrying, refusedWith, outcomeValues, OfReader}
+use Rattle.mrc_instruction.specs.Register.{registerField, registerValues, RegisterNamed, segmentField, segmentValues, SegmentNamed}
+use Rattle.mrc_instruction.specs.Operand.{addressingField, addressingValues, AddressingNamed}
 use Rattle.mrc_instruction.specs.Mrrm.{ModRM, registerOrMemory, aModRM, operandOf}
-use Rattle.mrc_instruction.specs.Read.{answered, byteRead, wordRead, registerOrMemoryRead, mrrmRead, operandRead, byteValues, wordValues, registerOrMemoryValues, mrrmValues, operandValues}
+use Rattle.mrc_instruction.specs.Read.{answered, byteRead, wordRead, registerOrMemoryRead, mrrmRead, operandRead, byteValues, wordValues, registerOrMemoryValues, mrrmValues, MrrmAt, operandValues}
 use Rattle.mrc_instruction.proofs.Then.{taken-le}
 use Rattle.mrc_instruction.proofs.Ends.{Takes, Ended, ends, takes-byte, takes-word, takes-register-or-memory, takes-modrm}
 
@@ -51,10 +57,19 @@ module _ {A R : Type 0} (whenGot : A → ℕ → R) (whenRefused : Refusal → �
   pub inside-says : at ≤ length s → Takes m → OfReader (length s - at) (values (answered whenGot whenRefused (readAt m s at)))
   inside-says h t = rw (le-leb at (length s) h, ← length-drop at s) (answer-says whenGot whenRefused values of-got of-refused m (drop at s) t)
 
--- of an answer that a test picks
-pub by-test : {R : Type 0} (values : R → Values) (t : Bool) (x y : R) → values (cond t x y) ≡ cond t (values x) (values y)
+-- a field's reader, by the test that picks its answer
+by-test : {R : Type 0} (values : R → Values) (t : Bool) (x y : R) → values (cond t x y) ≡ cond t (values x) (values y)
 by-test values true x y = refl
 by-test values false x y = refl
+
+pub register-named : (n : ℕ) {r : RegisterField} → r ≡ registerField n → RegisterNamed n r
+register-named n e = record { answer = e; values = ap registerValues e ∙ by-test registerValues (ltb n 8) _ _ }
+
+pub segment-named : (n : ℕ) {r : SegmentField} → r ≡ segmentField n → SegmentNamed n r
+segment-named n e = record { answer = e; values = ap segmentValues e ∙ by-test segmentValues (ltb n 4) _ _ }
+
+pub addressing-named : (n : ℕ) {r : AddressingField} → r ≡ addressingField n → AddressingNamed n r
+addressing-named n e = record { answer = e; values = ap addressingValues e ∙ by-test addressingValues (ltb n 8) _ _ }
 
 -- each reader
 pub byte : (l : List ℕ) → OfReader (length l) (byteValues (byteRead (readFrom aByte l)))
@@ -74,11 +89,12 @@ whenGot m n = MrrmRead.Got (m .mrrm) (m .byte) n
 pub mrrm : (l : List ℕ) → OfReader (length l) (mrrmValues (mrrmRead (readFrom aModRM l)))
 mrrm l = answer-says whenGot MrrmRead.Refused mrrmValues (λ m n. refl) (λ e n. refl) aModRM l takes-modrm
 
-pub mrrm-outside : (s : List ℕ) (at : ℕ) → length s < at → mrrmValues (mrrmRead (readAt aModRM s at)) ≡ carrying 11 0 0 0
-mrrm-outside s at h = outside-says whenGot MrrmRead.Refused mrrmValues (λ m n. refl) (λ e n. refl) aModRM s at h
-
-pub mrrm-inside : (s : List ℕ) (at : ℕ) → at ≤ length s → OfReader (length s - at) (mrrmValues (mrrmRead (readAt aModRM s at)))
-mrrm-inside s at h = inside-says whenGot MrrmRead.Refused mrrmValues (λ m n. refl) (λ e n. refl) aModRM s at h takes-modrm
+pub mrrm-at : (s : List ℕ) (at : ℕ) {r : MrrmRead} → r ≡ mrrmRead (readAt aModRM s at) → MrrmAt s at r
+mrrm-at s at e = record {
+  answer = e;
+  outside = λ h. rw e (outside-says whenGot MrrmRead.Refused mrrmValues (λ m n. refl) (λ e n. refl) aModRM s at h);
+  inside = λ h. rw e (inside-says whenGot MrrmRead.Refused mrrmValues (λ m n. refl) (λ e n. refl) aModRM s at h takes-modrm);
+}
 
 -- it holds the position behind the bytes taken
 pub back : (at n : ℕ) → at + n - at ≡ n

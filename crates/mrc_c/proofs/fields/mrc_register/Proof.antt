@@ -25,10 +25,10 @@ refusal-code-requires : tie.Need-refusal-code-requires
 refusal-code-requires c κs = tt
 
 returns : tie.Need-returns
-returns c = c .register-code .ensures ∙ ap registerNumber (sym (c .before .before .register .given .1) ∙ c .before .before .before .before .try-from-encoding .ensures)
+returns c = c .register-code .ensures ∙ ap registerNumber (sym (c .before .before .register .given .1) ∙ c .before .before .before .before .try-from-encoding .ensures .answer)
 
 returns-2 : tie.Need-returns-2
-returns-2 c = c .refusal-code .ensures ∙ ap registerNumber (sym (c .before .before .refusal .given .1) ∙ c .before .before .before .before .try-from-encoding .ensures)
+returns-2 c = c .refusal-code .ensures ∙ ap registerNumber (sym (c .before .before .refusal .given .1) ∙ c .before .before .before .before .try-from-encoding .ensures .answer)
 
 pub mrc-register-spec : {M : Type 1} → statement M
 mrc-register-spec =

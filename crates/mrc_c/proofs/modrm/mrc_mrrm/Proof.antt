@@ -22,7 +22,7 @@ same-length : tie.Need-same-length
 same-length c = search needs
 
 returns : tie.Need-returns
-returns c = rw (c .before .before .before .before .before .modrm-record .ensures ∙ ap modrmRecord (c .before .before .before .before .before .before .read-mrrm .ensures)) at (c .before .before .write-whole .ensures)
+returns c = rw (c .before .before .before .before .before .modrm-record .ensures ∙ ap modrmRecord (c .before .before .before .before .before .before .read-mrrm .ensures .answer)) at (c .before .before .write-whole .ensures)
 
 pub mrc-mrrm-spec : {M : Type 1} → statement M
 mrc-mrrm-spec =

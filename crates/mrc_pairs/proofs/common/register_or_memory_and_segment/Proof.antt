@@ -30,19 +30,19 @@ new-requires : tie.Need-new-requires
 new-requires c κs = search needs
 
 returns : tie.Need-returns
-returns c = rw (c .new .ensures, found (c .before .before .before .before .before .before .args .byte / 8 % 8) (moved (c .before .before .before .before .before .before .args .opcode) (c .before .before .before .before .before .before .args .reg-mem)) (sym (c .before .before .before .segment .given .1) ∙ c .before .before .before .before .before .try-from-encoding .ensures), eq-eqb _ _ (c .before .if1 .taken), add-zero (c .before .before .before .before .before .before .args .at))
+returns c = rw (c .new .ensures, found (c .before .before .before .before .before .before .args .byte / 8 % 8) (moved (c .before .before .before .before .before .before .args .opcode) (c .before .before .before .before .before .before .args .reg-mem)) (sym (c .before .before .before .segment .given .1) ∙ c .before .before .before .before .before .try-from-encoding .ensures .answer), eq-eqb _ _ (c .before .if1 .taken), add-zero (c .before .before .before .before .before .before .args .at))
 
 new-requires-2 : tie.Need-new-requires-2
 new-requires-2 c κs = search needs
 
 returns-2 : tie.Need-returns-2
-returns-2 c = rw (c .new2 .ensures, found (c .before .before .before .before .before .before .args .byte / 8 % 8) (moved (c .before .before .before .before .before .before .args .opcode) (c .before .before .before .before .before .before .args .reg-mem)) (sym (c .before .before .before .segment .given .1) ∙ c .before .before .before .before .before .try-from-encoding .ensures), ne-eqb _ _ (c .before .if1 .left), add-zero (c .before .before .before .before .before .before .args .at))
+returns-2 c = rw (c .new2 .ensures, found (c .before .before .before .before .before .before .args .byte / 8 % 8) (moved (c .before .before .before .before .before .before .args .opcode) (c .before .before .before .before .before .before .args .reg-mem)) (sym (c .before .before .before .segment .given .1) ∙ c .before .before .before .before .before .try-from-encoding .ensures .answer), ne-eqb _ _ (c .before .if1 .left), add-zero (c .before .before .before .before .before .before .args .at))
 
 enum-known-e : tie.Need-enum-known-e
 enum-known-e c = search needs
 
 returns-3 : tie.Need-returns-3
-returns-3 c = rw (not-found (c .before .before .before .before .args .byte / 8 % 8) (moved (c .before .before .before .before .args .opcode) (c .before .before .before .before .args .reg-mem)) (sym (c .before .e .given .1) ∙ c .before .before .before .try-from-encoding .ensures), add-zero (c .before .before .before .before .args .at))
+returns-3 c = rw (not-found (c .before .before .before .before .args .byte / 8 % 8) (moved (c .before .before .before .before .args .opcode) (c .before .before .before .before .args .reg-mem)) (sym (c .before .e .given .1) ∙ c .before .before .before .try-from-encoding .ensures .answer), add-zero (c .before .before .before .before .args .at))
 
 pub register-or-memory-and-segment-spec : {M : Type 1} → statement M
 register-or-memory-and-segment-spec =
