@@ -87,7 +87,7 @@ enum {
  *     4         the register field, enum mrc_register_code
  *     5         enum mrc_kind: from MRC_DIRECT to MRC_REGISTER
  *     6         enum mrc_addressing_code, or enum mrc_register_code; 0 for MRC_DIRECT
- *     7         0
+ *     7         prefixes: 0, since the reader takes none
  *     8, 9      offset or displacement, low byte first; a displacement of 0 keeps its kind here
  *
  * Byte 1 and bytes 4 to 9 of a refusal are 0. */
@@ -110,7 +110,8 @@ uint8_t mrc_operand_size(uint8_t kind, uint8_t size);
  *
  * Answers the line's length plus 65,536 times the bytes of the image that it accounts for; the next line starts behind
  * them. A refused call answers 2^32 times the refusal's number and writes nothing: MRC_IMAGE_TOO_LONG, MRC_OUTSIDE_INPUT,
- * MRC_END_OF_INPUT (the position is the length: no line is left), MRC_NO_ROOM, the first that applies. */
+ * MRC_END_OF_INPUT (the position is the length: no line is left), MRC_NO_ROOM, the first that applies. The byte of each is
+ * 0, and a refused call has taken no byte and no prefix. */
 uint64_t mrc_line(const uint8_t *image, size_t length, size_t position, uint8_t *out, size_t room);
 
 static inline enum mrc_refusal mrc_line_refusal(uint64_t answer) { return (enum mrc_refusal)(answer >> 32); }

@@ -15,13 +15,14 @@ use Rattle.mrc_instruction.proofs.Unique.{exactly-one}
 use Rattle.mrc_rules.specs.declared.Answer.{Answer}
 use Rattle.mrc_rules.specs.Answer.{taken, prefixes}
 use Rattle.mrc_rules.specs.Decode.{decodeAt}
+use Rattle.mrc_line.specs.Line.{answerOf, lineValues}
 use Rattle.mrc_c.specs.Record.{recordOf}
 use Rattle.mrc_c.specs.Fields.{registerNumber, segmentNumber, addressingNumber}
 use Rattle.mrc_c.specs.Sizes.{sizeBy, sampleOf, sizedCode}
 use Rattle.mrc_c.specs.Modrm.{modrmRecord}
 use Rattle.mrc_c.specs.Step.{stepCode}
 use Rattle.mrc_c.specs.Written.{Written}
-use Rattle.mrc_c.specs.Line.{LineWritten}
+use Rattle.mrc_c.specs.Line.{lengthOf, LineWritten}
 use Rattle.mrc_c.proofs.Settled as settled
 use Rattle.mrc_c.proofs.Counts as counts
 
@@ -49,9 +50,12 @@ fields n = (exactly-one (registerNumber (registerField n)), exactly-one (segment
 pub operand-size : (kind size : ℕ) → ExactlyOne (λ (r : ℕ). r ≡ sizedCode (sizeOf (sampleOf kind (sizeBy size))))
 operand-size kind size = exactly-one (sizedCode (sizeOf (sampleOf kind (sizeBy size))))
 
--- the two bytes that a record has for a count, and a count's place in a step's number, hold all of it
+-- the two bytes that a record has for a count, and the places that the counts have in a number, hold all of them
 pub counts-whole : (s : List ℕ) (at budget : ℕ) → budget < 256 → (taken (decodeAt s at budget) < 65536) × (prefixes (decodeAt s at budget) < 65536)
 counts-whole s at budget h = (counts.taken-small s at budget h, counts.prefixes-small s at budget h)
+
+pub line-whole : (s : List ℕ) (at room : ℕ) → (lengthOf (answerOf s at room) < 65536) × (lineValues s at (answerOf s at room) .taken < 65536)
+line-whole = counts.lengths-small
 
 -- a record of a decode has 20 bytes, and one of a ModRM 10
 pub decode-length : (d : Answer) → length (recordOf d) ≡ 20

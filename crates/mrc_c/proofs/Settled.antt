@@ -27,7 +27,7 @@ pub line-settled : (image : List ℕ) (at : ℕ) (out : List ℕ) → ExactlyOne
 line-settled image at out =
     let a = answerOf image at (length out) in
     record {
-      answer = (lineCode a, after a (lineText image at) out);
+      answer = (lineCode image at a, after a (lineText image at) out);
       meets = record { answer = refl; buffer = refl };
       only = λ p w. both (w .answer) (w .buffer);
     }

@@ -1,17 +1,20 @@
--- The line call's answer as a number, and its buffer.
-use Prim.Native.Nat.{ℕ, _+_, _*_, _%_}
+-- The line call's answer as one number, and its buffer.
+use Prim.Native.Nat.{ℕ, _+_, _*_}
 use mathlib.Core.Path.{_≡_}
 use mathlib.Core.List.{List}
 use lib.ListN.{length}
-use Rattle.mrc_instruction.specs.Errors.{numberOf}
 use Rattle.mrc_line.specs.declared.line.LineAnswer.{LineAnswer}
-use Rattle.mrc_line.specs.Line.{lineText, answerOf, after}
+use Rattle.mrc_line.specs.Line.{lineText, answerOf, lineValues, after}
 
--- no line is 65,536 bytes long, nor takes as many
-abbrev pub lineCode : LineAnswer → ℕ
-lineCode (LineAnswer.Line len taken) = len % 65536 + 65536 * (taken % 65536)
-lineCode (LineAnswer.Refused e) = 4294967296 * numberOf e
+-- a refused call has no line
+abbrev pub lengthOf : LineAnswer → ℕ
+lengthOf (LineAnswer.Line len taken) = len
+lengthOf (LineAnswer.Refused e) = 0
+
+-- the line's length, the bytes taken and the refusal's number; the first two are below 65,536
+abbrev pub lineCode : List ℕ → ℕ → LineAnswer → ℕ
+lineCode s at r = lengthOf r + 65536 * lineValues s at r .taken + 4294967296 * lineValues s at r .number
 
 pub record LineWritten (s : List ℕ) (at : ℕ) (out : List ℕ) (r : ℕ) (done : List ℕ) : Type 0 where
-  pub answer : r ≡ lineCode (answerOf s at (length out))
+  pub answer : r ≡ lineCode s at (answerOf s at (length out))
   pub buffer : done ≡ after (answerOf s at (length out)) (lineText s at) out

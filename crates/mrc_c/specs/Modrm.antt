@@ -1,15 +1,17 @@
 -- The record of a ModRM: 10 bytes. 0: the refusal's number, or 0. 1: the ModRM byte, or the refusal's. 2 and 3: the bytes taken. 4: the register that
--- reg names. 5: what mod and rm name. 6: its addressing mode or register. 7: 0. 8 and 9: its offset or displacement, low byte first.
+-- reg names. 5: what mod and rm name. 6: its addressing mode or register. 7: the prefixes, of which there are none. 8 and 9: its offset or
+-- displacement, low byte first.
 use Prim.Native.Nat.{ℕ}
 use mathlib.Core.List.{List, [], _∷_}
 use Rattle.mrc_instruction.specs.declared.operand.Displacement.{Displacement}
 use Rattle.mrc_instruction.specs.declared.mrrm.RegisterOrMemory.{RegisterOrMemory}
 use Rattle.mrc_instruction.specs.declared.mrrm.MrrmRead.{MrrmRead}
-use Rattle.mrc_instruction.specs.Errors.{numberOf, byteOf}
+use Rattle.mrc_instruction.specs.Values.{Values}
+use Rattle.mrc_instruction.specs.Read.{mrrmValues}
 use Rattle.mrc_line.specs.Target.{targetOf}
 use Rattle.mrc_c.specs.declared.operands.Fields.{Fields}
 use Rattle.mrc_c.specs.Codes.{registerCode, addressingCode}
-use Rattle.mrc_c.specs.Record.{low, high, fieldsOf}
+use Rattle.mrc_c.specs.Record.{low, high, fieldsOf, noOperand}
 
 abbrev pub placeFields : RegisterOrMemory → Fields
 placeFields (RegisterOrMemory.Direct w) = fieldsOf 1 0 0 0 w
@@ -18,10 +20,10 @@ placeFields (RegisterOrMemory.DisplacementByte m d) = fieldsOf 3 (addressingCode
 placeFields (RegisterOrMemory.DisplacementWord m d) = fieldsOf 4 (addressingCode m) 0 0 (targetOf 0 0 (Displacement.Word d))
 placeFields (RegisterOrMemory.Register r) = fieldsOf 5 (registerCode r) 0 0 0
 
-abbrev pub modrmLaid : ℕ → ℕ → ℕ → ℕ → Fields → List ℕ
-modrmLaid number byte taken register f =
-    number ∷ byte ∷ low taken ∷ high taken ∷ register ∷ f .kind ∷ f .names ∷ 0 ∷ f .low ∷ f .high ∷ []
+abbrev pub modrmLaid : Values → ℕ → ℕ → Fields → List ℕ
+modrmLaid v byte register f =
+    v .number ∷ byte ∷ low (v .taken) ∷ high (v .taken) ∷ register ∷ f .kind ∷ f .names ∷ v .prefixes ∷ f .low ∷ f .high ∷ []
 
 unfoldable pub modrmRecord : MrrmRead → List ℕ
-modrmRecord (MrrmRead.Got m b n) = modrmLaid 0 b n (registerCode (m .register)) (placeFields (m .«register_or_memory»))
-modrmRecord (MrrmRead.Refused e n) = modrmLaid (numberOf e) (byteOf e) n 0 (fieldsOf 0 0 0 0 0)
+modrmRecord (MrrmRead.Got m b n) = modrmLaid (mrrmValues (MrrmRead.Got m b n)) b (registerCode (m .register)) (placeFields (m .«register_or_memory»))
+modrmRecord (MrrmRead.Refused e n) = modrmLaid (mrrmValues (MrrmRead.Refused e n)) (mrrmValues (MrrmRead.Refused e n) .byte) 0 noOperand

@@ -9,9 +9,9 @@ use Rattle.mrc_instruction.specs.declared.operand.Displacement.{Displacement}
 use Rattle.mrc_instruction.specs.declared.operand.Immediate.{Immediate}
 use Rattle.mrc_instruction.specs.declared.operand.Operand.{Operand}
 use Rattle.mrc_instruction.specs.declared.instruction.OperandSet.{OperandSet}
-use Rattle.mrc_instruction.specs.Errors.{numberOf, byteOf}
 use Rattle.mrc_names.specs.Places.{placeOf}
 use Rattle.mrc_rules.specs.declared.Answer.{Answer}
+use Rattle.mrc_rules.specs.Answer.{number, byte, taken, prefixes}
 use Rattle.mrc_line.specs.Target.{targetOf}
 use Rattle.mrc_c.specs.declared.operands.Fields.{Fields}
 use Rattle.mrc_c.specs.Codes.{sizeCode, segmentCode, registerCode, addressingCode, repeatCode}
@@ -71,6 +71,11 @@ laidOut number byte taken prefixes operation repeat d s =
     ∷ d .kind ∷ d .names ∷ d .mode ∷ d .size ∷ d .low ∷ d .high
     ∷ s .kind ∷ s .names ∷ s .mode ∷ s .size ∷ s .low ∷ s .high ∷ []
 
+-- what every answer carries, before what an instruction has besides
+abbrev pub carried : Answer → ℕ → ℕ → Fields → Fields → List ℕ
+carried a = laidOut (number a) (byte a) (taken a) (prefixes a)
+
 unfoldable pub recordOf : Answer → List ℕ
-recordOf (Answer.Decoded i n p) = laidOut 0 0 n p (placeOf (i .operation)) (repeatCode (i .repeat)) (destinationOf (i .operands)) (sourceOf (i .operands))
-recordOf (Answer.Refused e n p) = laidOut (numberOf e) (byteOf e) n p 0 0 noOperand noOperand
+recordOf (Answer.Decoded i n p) =
+    carried (Answer.Decoded i n p) (placeOf (i .operation)) (repeatCode (i .repeat)) (destinationOf (i .operands)) (sourceOf (i .operands))
+recordOf (Answer.Refused e n p) = carried (Answer.Refused e n p) 0 0 noOperand noOperand

@@ -10,12 +10,13 @@ use mrc_instruction::register::RegisterField;
 use mrc_instruction::register::Segment;
 use mrc_instruction::register::SegmentField;
 ghost use mathlib.Core.Path.{_≡_};
+ghost use Rattle.mrc_instruction.specs.Values.{refusedWith};
 ghost use Rattle.mrc_instruction.specs.Register.{registerField, segmentField};
 ghost use Rattle.mrc_instruction.specs.Operand.{addressingField};
 ghost use Rattle.mrc_c.specs.Fields.{refusalCode, registerNumber, segmentNumber, addressingNumber};
 
 fn refusal_code(refusal: Refusal) -> u32
-    ensures { λ r. ⌜ r ≡ refusalCode refusal ⌝ }
+    ensures { λ r. ⌜ r ≡ refusalCode (refusedWith refusal 0 0) ⌝ }
 {
     65536 * (refusal.number() as u32) + (refusal.byte() as u32)
 }

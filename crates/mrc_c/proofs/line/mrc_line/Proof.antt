@@ -1,7 +1,8 @@
--- The line call's answer, by its number; the buffer is the line call's.
+-- The line call's answer, by its number, in which nothing of it is lost; the buffer is the line call's.
 -- Assumes nothing.
-use mathlib.Core.Path.{sym, ap, _∙_}
-use Rattle.mrc_c.specs.Line.{lineCode}
+use mathlib.Core.Path.{sym, _∙_}
+use lib.ListN.{length}
+use Rattle.mrc_c.proofs.Counts.{line-whole, refusal-whole}
 use borrow.Author.Needs.{needs}
 use Rattle.mrc_c.proofs.line.mrc_line.Statement.{statement}
 use Rattle.mrc_c.proofs.line.mrc_line.Tie as tie
@@ -35,16 +36,20 @@ same-length c = search needs
 
 returns : tie.Need-returns
 returns c =
-    record { answer = ap lineCode (sym (c .before .len .given .1) ∙ c .before .before .before .before .before .line .ensures .answer); buffer = c .before .before .before .before .before .line .ensures .bytes }
+    let l = c .before .before .before .before .before .line .ensures in
+    let a = c .before .before .before .before .before .before .before .before .before .args in
+    record { answer = line-whole (a .image .now) (a .at) (length (a .out .now)) _ _ (sym (c .before .len .given .1) ∙ l .answer); buffer = l .bytes }
 
 same-length-2 : tie.Need-same-length-2
 same-length-2 c = search needs
 
 returns-2 : tie.Need-returns-2
 returns-2 c =
+    let l = c .before .before .before .before .before .before .line .ensures in
+    let a = c .before .before .before .before .before .before .before .before .before .before .args in
     record {
-      answer = rw (c .number .ensures) (ap lineCode (sym (c .before .before .refusal .given .1) ∙ c .before .before .before .before .before .before .line .ensures .answer));
-      buffer = c .before .before .before .before .before .before .line .ensures .bytes;
+      answer = rw (c .number .ensures) (refusal-whole (a .image .now) (a .at) (length (a .out .now)) _ (sym (c .before .before .refusal .given .1) ∙ l .answer));
+      buffer = l .bytes;
     }
 
 pub mrc-line-spec : {M : Type 1} → statement M
