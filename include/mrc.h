@@ -102,7 +102,10 @@ uint32_t mrc_register(uint8_t field);
 uint32_t mrc_segment(uint8_t field);
 uint32_t mrc_addressing(uint8_t field);
 
-/* The size of an operand of a kind: enum mrc_size. `size` is the operand's own, of memory and registers. */
+/* The size of an operand, by the first and the fourth of its six bytes: enum mrc_size. `size` counts for memory and registers
+ * alone, from MRC_DIRECT to MRC_REGISTER. MRC_NO_SIZE is the answer for a far address and for MRC_DISPLACEMENT_NONE, and
+ * also for MRC_ABSENT, for a kind that does not exist, and for memory or a register with a size other than MRC_BYTE and
+ * MRC_WORD. */
 uint8_t mrc_operand_size(uint8_t kind, uint8_t size);
 
 /* Writes the listing line at a position of an image, with its LF, to the front of `out`, and no byte behind it; there is no

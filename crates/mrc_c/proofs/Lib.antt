@@ -1,4 +1,5 @@
 pub mod Whole
 pub mod Counts
+pub mod SizeKept
 pub mod Settled
 pub mod Main

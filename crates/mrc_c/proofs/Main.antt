@@ -11,20 +11,22 @@ use Rattle.mrc_instruction.specs.Reading.{readAt}
 use Rattle.mrc_instruction.specs.Mrrm.{aModRM}
 use Rattle.mrc_instruction.specs.Read.{mrrmRead}
 use Rattle.mrc_instruction.specs.declared.mrrm.MrrmRead.{MrrmRead}
+use Rattle.mrc_instruction.specs.declared.operand.Operand.{Operand}
 use Rattle.mrc_instruction.proofs.Unique.{exactly-one}
 use Rattle.mrc_rules.specs.declared.Answer.{Answer}
 use Rattle.mrc_rules.specs.Answer.{taken, prefixes}
 use Rattle.mrc_rules.specs.Decode.{decodeAt}
 use Rattle.mrc_line.specs.Line.{answerOf, lineValues}
-use Rattle.mrc_c.specs.Record.{recordOf}
+use Rattle.mrc_c.specs.Record.{recordOf, operandFields}
 use Rattle.mrc_c.specs.Fields.{registerNumber, segmentNumber, addressingNumber}
-use Rattle.mrc_c.specs.Sizes.{sizeBy, sampleOf, sizedCode}
+use Rattle.mrc_c.specs.Sizes.{sizedCode, sizeNumber}
 use Rattle.mrc_c.specs.Modrm.{modrmRecord}
 use Rattle.mrc_c.specs.Step.{stepCode}
 use Rattle.mrc_c.specs.Written.{Written}
 use Rattle.mrc_c.specs.Line.{lengthOf, LineWritten}
 use Rattle.mrc_c.proofs.Settled as settled
 use Rattle.mrc_c.proofs.Counts as counts
+use Rattle.mrc_c.proofs.SizeKept as sizes
 
 pub decode : (s : List ℕ) (at budget : ℕ) (out : List ℕ) → ExactlyOne {A = ℕ × List ℕ} (λ p. Written (recordOf (decodeAt s at budget)) out (p .0) (p .1))
 decode s at budget out = settled.written-settled (recordOf (decodeAt s at budget)) out
@@ -47,8 +49,12 @@ pub fields : (n : ℕ)
     × ExactlyOne (λ (r : ℕ). r ≡ addressingNumber (addressingField n))
 fields n = (exactly-one (registerNumber (registerField n)), exactly-one (segmentNumber (segmentField n)), exactly-one (addressingNumber (addressingField n)))
 
-pub operand-size : (kind size : ℕ) → ExactlyOne (λ (r : ℕ). r ≡ sizedCode (sizeOf (sampleOf kind (sizeBy size))))
-operand-size kind size = exactly-one (sizedCode (sizeOf (sampleOf kind (sizeBy size))))
+pub operand-size : (kind size : ℕ) → ExactlyOne (λ (r : ℕ). r ≡ sizeNumber kind size)
+operand-size kind size = exactly-one (sizeNumber kind size)
+
+-- of the kind and the size that a record has of an operand it is the operand's size
+pub size-kept : (o : Operand) → sizeNumber (operandFields o .kind) (operandFields o .size) ≡ sizedCode (sizeOf o)
+size-kept = sizes.size-kept
 
 -- the two bytes that a record has for a count, and the places that the counts have in a number, hold all of them
 pub counts-whole : (s : List ℕ) (at budget : ℕ) → budget < 256 → (taken (decodeAt s at budget) < 65536) × (prefixes (decodeAt s at budget) < 65536)
