@@ -17,7 +17,7 @@ enum {
     MRC_DECODE_RECORD = 20,   /* bytes that mrc_decode writes */
     MRC_MRRM_RECORD = 10,     /* bytes that mrc_mrrm writes */
     MRC_LONGEST_LINE = 85,    /* no line is longer, the LF included: proved */
-    MRC_LONGEST_IMAGE = 65536 /* the most bytes that mrc_line lists */
+    MRC_LONGEST_IMAGE = 65536 /* the most bytes that mrc_line and mrc_page list */
 };
 
 /* Why a call is refused. The byte that a refusal carries is 0 where none is named. */
@@ -120,6 +120,18 @@ uint64_t mrc_line(const uint8_t *image, size_t length, size_t position, uint8_t 
 static inline enum mrc_refusal mrc_line_refusal(uint64_t answer) { return (enum mrc_refusal)(answer >> 32); }
 static inline size_t mrc_line_length(uint64_t answer) { return (size_t)(answer & 0xFFFF); }
 static inline size_t mrc_line_taken(uint64_t answer) { return (size_t)(answer >> 16 & 0xFFFF); }
+
+/* Writes the listing lines from a position of an image on to the front of `out`, as many whole lines as it has room for, and
+ * no byte behind them; there is no NUL. A buffer of MRC_LONGEST_LINE bytes or more has room for a line wherever one is left.
+ *
+ * Answers the length of the text, which is below 2^32, plus 2^32 times the bytes of the image that the lines account for, at
+ * most MRC_LONGEST_IMAGE; the next line starts behind them. The answer is 0, and nothing is written, where there is no line
+ * (the position is the length or beyond it, or the image is longer than MRC_LONGEST_IMAGE) and where the first has no room:
+ * mrc_line says which. */
+uint64_t mrc_page(const uint8_t *image, size_t length, size_t position, uint8_t *out, size_t room);
+
+static inline size_t mrc_page_length(uint64_t answer) { return (size_t)(answer & 0xFFFFFFFF); }
+static inline size_t mrc_page_taken(uint64_t answer) { return (size_t)(answer >> 32); }
 
 enum mrc_kind {
     MRC_ABSENT,

@@ -1,11 +1,12 @@
 -- The counts of a decode are below 65,536 under any budget of a byte, and so are a line's length and the bytes that it takes: nothing of them is
--- lost where they are cut to two bytes.
+-- lost where they are cut to two bytes. The text of a page is below 4,294,967,296 bytes long.
 -- Assumes nothing.
 use mathlib.Core.Path.{_≡_, refl, ap}
 use mathlib.Core.List.{List}
-use Prim.Native.Nat.{ℕ, _+_, _*_, _%_, _<_}
+use Prim.Native.Nat.{ℕ, _+_, _*_, _%_, _<_, _≤_}
 use native.Mathlib.Nat.{mod-eq-of-lt}
 use native.Mathlib.Omega.{arith}
+use lib.ListN.{length}
 use Rattle.mrc_instruction.specs.declared.errors.Refusal.{Refusal}
 use Rattle.mrc_instruction.specs.Errors.{numberOf}
 use Rattle.mrc_rules.specs.declared.Answer.{Answer}
@@ -15,9 +16,11 @@ use Rattle.mrc_rules.proofs.Length.{at-most-six}
 use Rattle.mrc_rules.proofs.Counting.{prefix-count}
 use Rattle.mrc_line.specs.declared.line.LineAnswer.{LineAnswer}
 use Rattle.mrc_line.specs.Line.{answerOf, lineValues}
+use Rattle.mrc_line.specs.Page.{textOf, takenOf, pageOf}
 use Rattle.mrc_line.proofs.Takes.{line-takes}
 use Rattle.mrc_line.proofs.Lengths.{line-longest}
 use Rattle.mrc_line.proofs.Answers.{told}
+use Rattle.mrc_line.proofs.Pages.{page-short}
 use Rattle.mrc_c.specs.Step.{stepCode}
 use Rattle.mrc_c.specs.Line.{lengthOf, lineCode}
 
@@ -48,3 +51,8 @@ module _ (s : List ℕ) (at room : ℕ) where
 
   pub refusal-whole : (x : Refusal) → LineAnswer.Refused x ≡ answerOf s at room → 4294967296 * numberOf x ≡ lineCode s at (answerOf s at room)
   refusal-whole x e = omega (arith, ap (lineCode s at) e)
+
+  pub page-small : (length (textOf s (pageOf s at room)) < 4294967296) × (takenOf s (pageOf s at room) ≤ 65536)
+  page-small =
+      let k = page-short s at room in
+      (omega (arith, k .text, k .taken), omega (arith, k .taken))

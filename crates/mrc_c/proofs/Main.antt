@@ -2,7 +2,7 @@
 -- Assumes nothing.
 use mathlib.Core.Path.{_≡_, refl}
 use mathlib.Core.List.{List}
-use Prim.Native.Nat.{ℕ, _<_}
+use Prim.Native.Nat.{ℕ, _<_, _≤_}
 use lib.ListN.{length}
 use Rattle.mrc_instruction.specs.Promise.{ExactlyOne}
 use Rattle.mrc_instruction.specs.Register.{registerField, segmentField}
@@ -17,6 +17,7 @@ use Rattle.mrc_rules.specs.declared.Answer.{Answer}
 use Rattle.mrc_rules.specs.Answer.{taken, prefixes}
 use Rattle.mrc_rules.specs.Decode.{decodeAt}
 use Rattle.mrc_line.specs.Line.{answerOf, lineValues}
+use Rattle.mrc_line.specs.Page.{textOf, takenOf, pageOf}
 use Rattle.mrc_c.specs.Record.{recordOf, operandFields}
 use Rattle.mrc_c.specs.Fields.{registerNumber, segmentNumber, addressingNumber}
 use Rattle.mrc_c.specs.Sizes.{sizedCode, sizeNumber}
@@ -24,6 +25,7 @@ use Rattle.mrc_c.specs.Modrm.{modrmRecord}
 use Rattle.mrc_c.specs.Step.{stepCode}
 use Rattle.mrc_c.specs.Written.{Written}
 use Rattle.mrc_c.specs.Line.{lengthOf, LineWritten}
+use Rattle.mrc_c.specs.Page.{PageWritten}
 use Rattle.mrc_c.proofs.Settled as settled
 use Rattle.mrc_c.proofs.Counts as counts
 use Rattle.mrc_c.proofs.SizeKept as sizes
@@ -40,6 +42,9 @@ mrrm s at out = settled.written-settled (modrmRecord (mrrmRead (readAt aModRM s 
 
 pub line : (image : List ℕ) (at : ℕ) (out : List ℕ) → ExactlyOne {A = ℕ × List ℕ} (λ p. LineWritten image at out (p .0) (p .1))
 line = settled.line-settled
+
+pub page : (image : List ℕ) (at : ℕ) (out : List ℕ) → ExactlyOne {A = ℕ × List ℕ} (λ p. PageWritten image at out (p .0) (p .1))
+page = settled.page-settled
 
 pub record-of : (d : Answer) → ExactlyOne (λ (r : List ℕ). r ≡ recordOf d)
 record-of d = exactly-one (recordOf d)
@@ -62,6 +67,9 @@ counts-whole s at budget h = (counts.taken-small s at budget h, counts.prefixes-
 
 pub line-whole : (s : List ℕ) (at room : ℕ) → (lengthOf (answerOf s at room) < 65536) × (lineValues s at (answerOf s at room) .taken < 65536)
 line-whole = counts.lengths-small
+
+pub page-whole : (s : List ℕ) (at room : ℕ) → (length (textOf s (pageOf s at room)) < 4294967296) × (takenOf s (pageOf s at room) ≤ 65536)
+page-whole = counts.page-small
 
 -- a record of a decode has 20 bytes, and one of a ModRM 10
 pub decode-length : (d : Answer) → length (recordOf d) ≡ 20

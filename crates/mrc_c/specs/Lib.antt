@@ -5,4 +5,5 @@ pub mod Sizes
 pub mod Modrm
 pub mod Written
 pub mod Line
+pub mod Page
 pub mod Step

@@ -5,6 +5,7 @@ pub mod fields;
 pub mod line;
 pub mod modrm;
 mod operands;
+pub mod page;
 pub mod record;
 pub mod sizes;
 pub mod step;

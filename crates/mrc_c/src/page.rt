@@ -1,0 +1,15 @@
+// The page call for C and Rust.
+use mrc_line::page::write_page;
+ghost use Rattle.mrc_c.specs.Page.{PageWritten};
+
+// Writes as many whole lines as fit, and answers the length of their text and 4,294,967,296 times the bytes of the image that they account for.
+#[no_mangle]
+pub extern "C" fn mrc_page(image: &[u8], at: usize, out: &mut [u8]) -> u64
+    ensures { λ r. ⌜ PageWritten (now (image .entry)) at (now (out .entry)) r (now (out .exit)) ⌝ }
+{
+    let page = write_page(image, at, out);
+    let len = page.len;
+    let next = page.next;
+    let taken = next - at;
+    (len as u64) + 4294967296 * (taken as u64)
+}
