@@ -2,7 +2,7 @@
 macro_rules! coded {
     ($(#[$about:meta])* $access:vis enum $name:ident { $($(#[$of:meta])* $variant:ident),* $(,)? }) => {
         $(#[$about])*
-        #[derive(Clone, Copy, Debug, PartialEq, Eq)]
+        #[derive(Clone, Copy, Debug, PartialEq, Eq, Hash)]
         $access enum $name { $($(#[$of])* $variant),* }
 
         impl $name {

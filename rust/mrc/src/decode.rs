@@ -5,9 +5,12 @@ use crate::{
     SizedRegisterEncoding,
 };
 
-/// A decode's answer.
-#[derive(Clone, Copy, Debug, PartialEq, Eq)]
+/// A decode's answer. Refused or not, it has both counts.
+#[derive(Clone, Copy, Debug, PartialEq, Eq, Hash)]
+#[must_use]
+#[non_exhaustive]
 pub struct Answer {
+    /// The instruction, or why there is none.
     pub result: Result<Instruction>,
     /// The bytes taken from the position on, prefixes included.
     pub taken: usize,

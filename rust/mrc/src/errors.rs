@@ -1,30 +1,44 @@
 use std::fmt::{self, Display, Formatter};
 
 /// Why a call is refused.
-#[derive(Clone, Copy, Debug, PartialEq, Eq)]
+#[derive(Clone, Copy, Debug, PartialEq, Eq, Hash)]
+#[non_exhaustive]
 pub enum DecodeError {
+    /// No opcode is there.
     EndOfInput,
+    /// The bytes end behind the opcode, within the instruction.
     CouldNotReadExtraBytes,
+    /// No call gives this one; its number is reserved.
     InvalidDataSizeEncoding(u8),
+    /// An addressing field of 8 or more.
     InvalidIndirectMemoryEncoding(u8),
+    /// The ModRM byte of an 8F whose reg is not 0.
     InvalidModRegRMEncoding(u8),
+    /// A first byte that no instruction has; 1 for an F6 or F7 whose reg is 1.
     InvalidOpCode(u8),
+    /// A register field of 8 or more.
     InvalidRegisterEncoding(u8),
+    /// A segment field of 4 or more.
     InvalidSegmentEncoding(u8),
     /// The first segment override, before bytes that are refused or have no operands.
     InvalidPrefix(u8),
     /// The first prefix over the budget.
     TooManyPrefixes(u8),
+    /// The position is beyond the length.
     OutsideInput,
+    /// The line is longer than its buffer.
     NoRoom,
+    /// The image has more than [`LONGEST_IMAGE`](crate::LONGEST_IMAGE) bytes.
     ImageTooLong,
 }
 
+/// An answer, or why the call is refused.
 pub type Result<T> = std::result::Result<T, DecodeError>;
 
 impl DecodeError {
     /// The refusal's number, 1 to 13.
-    pub fn number(&self) -> u8 {
+    #[must_use]
+    pub const fn number(&self) -> u8 {
         match self {
             Self::EndOfInput => 1,
             Self::CouldNotReadExtraBytes => 2,
@@ -39,6 +53,26 @@ impl DecodeError {
             Self::OutsideInput => 11,
             Self::NoRoom => 12,
             Self::ImageTooLong => 13,
+        }
+    }
+
+    /// The byte that the refusal carries; 0 where it carries none.
+    #[must_use]
+    pub const fn byte(&self) -> u8 {
+        match *self {
+            Self::InvalidDataSizeEncoding(byte)
+            | Self::InvalidIndirectMemoryEncoding(byte)
+            | Self::InvalidModRegRMEncoding(byte)
+            | Self::InvalidOpCode(byte)
+            | Self::InvalidRegisterEncoding(byte)
+            | Self::InvalidSegmentEncoding(byte)
+            | Self::InvalidPrefix(byte)
+            | Self::TooManyPrefixes(byte) => byte,
+            Self::EndOfInput
+            | Self::CouldNotReadExtraBytes
+            | Self::OutsideInput
+            | Self::NoRoom
+            | Self::ImageTooLong => 0,
         }
     }
 

@@ -1,7 +1,15 @@
 use crate::{boundary, AddressingMode, DecodeError, RegisterEncoding, Result, Segment};
 
 /// What a field of an instruction's bits names.
+///
+/// ```
+/// use mrc::{DecodeError, Segment, TryFromEncoding};
+///
+/// assert_eq!(Segment::try_from_encoding(0), Ok(Segment::ES));
+/// assert_eq!(Segment::try_from_encoding(4), Err(DecodeError::InvalidSegmentEncoding(4)));
+/// ```
 pub trait TryFromEncoding<T> {
+    /// What the field names. A refusal carries the field; it has taken no byte, and read no prefix.
     fn try_from_encoding(encoding: u8) -> Result<T>;
 }
 

@@ -1,11 +1,9 @@
-//! The proved 8086 decoder and lister, with the names of mrc_decoder and mrc_instruction.
-//!
-//! [`decode_instruction`] reads from an iterator of bytes, [`decode_at`] from a slice at a position; [`lines`] lists an
-//! image. The work is done by the library that `rt staticlib mrc_c` proves and builds; this crate gives its answers the
-//! shapes of Rust.
+#![doc = include_str!("../README.md")]
 #![deny(unsafe_code)]
+#![warn(missing_docs)]
 
 mod address;
+#[doc(hidden)]
 pub mod boundary;
 mod coded;
 mod decode;

@@ -1,19 +1,36 @@
 use crate::{boundary, DecodeError, Result};
 use std::fmt::{self, Display, Formatter};
+use std::iter::FusedIterator;
 
 /// The most bytes that an image has: one for each offset.
 pub const LONGEST_IMAGE: usize = 65_536;
 /// The most bytes that a line has, its LF included.
 pub const LONGEST_LINE: usize = 85;
 
-/// What a line call wrote, and the bytes of the image that its line accounts for.
-#[derive(Clone, Copy, Debug, PartialEq, Eq)]
+/// What a line call wrote.
+#[derive(Clone, Copy, Debug, PartialEq, Eq, Hash)]
+#[non_exhaustive]
 pub struct Written {
+    /// The bytes written, the LF included.
     pub length: usize,
+    /// The bytes of the image that the line accounts for. The next line starts behind them.
     pub taken: usize,
 }
 
-/// Writes the listing line at a position, with its LF, to the front of `out`. A refused call changes no byte of it.
+/// Writes the listing line at a position, with its LF, to the front of `out`, and no byte behind it. It has room for every
+/// line where it has [`LONGEST_LINE`] bytes.
+///
+/// Refused are, in this order, an image that is too long, a position beyond its end, the position at its end, and a buffer
+/// with no room for the line. A refused call changes no byte of `out`. Its refusal carries the byte 0, has taken no byte of
+/// the image, and has read no prefix.
+///
+/// ```
+/// let mut out = [0; mrc::LONGEST_LINE];
+/// let written = mrc::line(&[0x90, 0xF3, 0xA4], 1, &mut out)?;
+/// assert_eq!(&out[..written.length], b"0001  F3 A4                  REPE MOVSB\n");
+/// assert_eq!(written.taken, 2);
+/// # mrc::Result::Ok(())
+/// ```
 pub fn line(image: &[u8], position: usize, out: &mut [u8]) -> Result<Written> {
     let answer = boundary::line(image, position, out);
     match (answer >> 32) as u8 {
@@ -26,12 +43,14 @@ pub fn line(image: &[u8], position: usize, out: &mut [u8]) -> Result<Written> {
 }
 
 /// A listing line, as the line call writes it, with its LF.
-#[derive(Clone, Debug, PartialEq, Eq)]
+#[derive(Clone, Debug, PartialEq, Eq, Hash)]
+#[non_exhaustive]
 pub struct Line {
     /// The offset in the image at which the line starts.
     pub start: usize,
     /// The bytes of the image that the line accounts for.
     pub taken: usize,
+    /// The line's text.
     pub text: String,
 }
 
@@ -58,6 +77,7 @@ pub fn lines(image: &[u8]) -> Result<Lines<'_>> {
 
 /// The iterator of [`lines`].
 #[derive(Clone, Debug)]
+#[must_use = "an iterator lists nothing until it is asked"]
 pub struct Lines<'a> {
     image: &'a [u8],
     start: usize,
@@ -82,3 +102,5 @@ impl Iterator for Lines<'_> {
         })
     }
 }
+
+impl FusedIterator for Lines<'_> {}

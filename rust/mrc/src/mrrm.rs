@@ -1,22 +1,45 @@
 use crate::{boundary, AddressingMode, DecodeError, RegisterEncoding, Result};
 
-#[derive(Clone, Copy, Debug, PartialEq, Eq)]
+/// What a ModRM's mod and rm name.
+#[derive(Clone, Copy, Debug, PartialEq, Eq, Hash)]
 pub enum RegisterOrMemory {
+    /// Memory at an offset.
     Direct(u16),
+    /// Memory with no displacement.
     Indirect(AddressingMode),
+    /// Memory with a signed byte, which may be 0.
     DisplacementByte(AddressingMode, i8),
+    /// Memory with a signed word, which may be 0.
     DisplacementWord(AddressingMode, i16),
+    /// A register.
     Register(RegisterEncoding),
 }
 
-#[derive(Clone, Copy, Debug, PartialEq, Eq)]
+/// A ModRM with its displacement.
+#[derive(Clone, Copy, Debug, PartialEq, Eq, Hash)]
+#[non_exhaustive]
 pub struct ModRegRM {
+    /// What reg names.
     pub register: RegisterEncoding,
+    /// What mod and rm name.
     pub register_or_memory: RegisterOrMemory,
 }
 
-/// The ModRM reader's answer.
-#[derive(Clone, Copy, Debug, PartialEq, Eq)]
+impl ModRegRM {
+    /// The ModRM of a register, and of a register or memory.
+    #[must_use]
+    pub fn new(register: RegisterEncoding, register_or_memory: RegisterOrMemory) -> Self {
+        Self {
+            register,
+            register_or_memory,
+        }
+    }
+}
+
+/// The ModRM reader's answer. It reads no prefix.
+#[derive(Clone, Copy, Debug, PartialEq, Eq, Hash)]
+#[must_use]
+#[non_exhaustive]
 pub struct MrrmAnswer {
     /// The ModRM and its byte.
     pub result: Result<(ModRegRM, u8)>,
@@ -25,6 +48,14 @@ pub struct MrrmAnswer {
 }
 
 /// Reads the ModRM byte at a position, and the displacement that follows it.
+///
+/// ```
+/// let answer = mrc::read_mrrm(&[0x47, 0xFE], 0);
+/// let (mrrm, byte) = answer.result?;
+/// assert_eq!(mrrm.register, mrc::RegisterEncoding::AlAx);
+/// assert_eq!((byte, answer.taken), (0x47, 2));
+/// # mrc::Result::Ok(())
+/// ```
 pub fn read_mrrm(bytes: &[u8], position: usize) -> MrrmAnswer {
     let mut record = [0; boundary::MRRM_RECORD];
     boundary::mrrm(bytes, position, &mut record);
@@ -38,10 +69,8 @@ fn reading(record: &[u8; boundary::MRRM_RECORD]) -> Result<(ModRegRM, u8)> {
     if record[0] != 0 {
         return Err(DecodeError::from_number(record[0], record[1]));
     }
-    let mrrm = ModRegRM {
-        register: RegisterEncoding::from_code(record[4]),
-        register_or_memory: register_or_memory(record),
-    };
+    let register = RegisterEncoding::from_code(record[4]);
+    let mrrm = ModRegRM::new(register, register_or_memory(record));
     Ok((mrrm, record[1]))
 }
 

@@ -2,34 +2,73 @@ use crate::coded::coded;
 use crate::{boundary, Address, Segment, SizedRegisterEncoding};
 
 coded! {
-    pub enum OperandSize { Byte, Word }
+    /// The size of an operand.
+    pub enum OperandSize {
+        /// Eight bits.
+        Byte,
+        /// Sixteen bits.
+        Word,
+    }
 }
 
 coded! {
-    pub enum AddressingMode { BxSi, BxDi, BpSi, BpDi, Si, Di, Bp, Bx }
+    /// The registers whose sum an indirect operand's offset starts from.
+    pub enum AddressingMode {
+        /// BX and SI.
+        BxSi,
+        /// BX and DI.
+        BxDi,
+        /// BP and SI.
+        BpSi,
+        /// BP and DI.
+        BpDi,
+        /// SI alone.
+        Si,
+        /// DI alone.
+        Di,
+        /// BP alone.
+        Bp,
+        /// BX alone.
+        Bx,
+    }
 }
 
-#[derive(Clone, Copy, Debug, PartialEq, Eq)]
+/// What is added to an offset.
+#[derive(Clone, Copy, Debug, PartialEq, Eq, Hash)]
 pub enum Displacement {
+    /// Nothing: in memory also a written displacement of 0.
     None,
+    /// A signed byte.
     Byte(i8),
+    /// A signed word.
     Word(i16),
 }
 
-#[derive(Clone, Copy, Debug, PartialEq, Eq)]
+/// A number in the instruction itself.
+#[derive(Clone, Copy, Debug, PartialEq, Eq, Hash)]
 pub enum Immediate {
+    /// Of eight bits.
     Byte(u8),
+    /// Of sixteen bits.
     Word(u16),
 }
 
-#[derive(Clone, Copy, Debug, PartialEq, Eq)]
+/// What an instruction works on.
+#[derive(Clone, Copy, Debug, PartialEq, Eq, Hash)]
 pub enum Operand {
+    /// Memory at an offset of a segment.
     Direct(Segment, u16, OperandSize),
+    /// Memory at the sum of registers and a displacement.
     Indirect(Segment, AddressingMode, Displacement, OperandSize),
+    /// A register.
     Register(SizedRegisterEncoding),
+    /// A segment register.
     Segment(Segment),
+    /// A number.
     Immediate(Immediate),
+    /// A distance from the instruction's end, as of a jump. That of a RET counts bytes of the stack.
     Displacement(Displacement),
+    /// A far address.
     SegmentAndOffset(Address),
 }
 
@@ -54,6 +93,7 @@ coded! {
 
 impl Operand {
     /// The operand's size. A segment-and-offset has none, nor has `Displacement::None`.
+    #[must_use]
     pub fn operand_size(&self) -> Option<OperandSize> {
         let own = self.own_size().unwrap_or(OperandSize::Byte);
         match boundary::operand_size(self.kind() as u8, own as u8) {

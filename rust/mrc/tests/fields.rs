@@ -41,11 +41,7 @@ fn an_addressing_field() {
 #[test]
 fn modrm_by_its_mod() {
     let reads = |bytes: &[u8], register_or_memory, taken| {
-        let register = RegisterEncoding::ClCx;
-        let mrrm = ModRegRM {
-            register,
-            register_or_memory,
-        };
+        let mrrm = ModRegRM::new(RegisterEncoding::ClCx, register_or_memory);
         let answer = read_mrrm(bytes, 0);
         assert_eq!(answer.result, Ok((mrrm, bytes[0])));
         assert_eq!(answer.taken, taken);

@@ -1,6 +1,6 @@
 //! The line call, and the lines of an image.
 
-use mrc::{line, lines, DecodeError, Written, LONGEST_IMAGE, LONGEST_LINE};
+use mrc::{line, lines, DecodeError, LONGEST_IMAGE, LONGEST_LINE};
 
 const EXAMPLE: [u8; 13] = [
     0x26, 0x8B, 0x47, 0xFE, 0xF3, 0xA4, 0x75, 0xF8, 0x83, 0xC0, 0xFF, 0x60, 0x8B,
@@ -33,10 +33,10 @@ fn the_example_of_document_01() {
 #[test]
 fn a_line_call_leaves_the_bytes_behind_its_line() {
     let mut out = [0xA5; LONGEST_LINE];
-    let written = line(&EXAMPLE, 4, &mut out);
+    let written = line(&EXAMPLE, 4, &mut out).expect("a line within the image");
     let expected = b"0004  F3 A4                  REPE MOVSB\n";
     let length = expected.len();
-    assert_eq!(written, Ok(Written { length, taken: 2 }));
+    assert_eq!((written.length, written.taken), (length, 2));
     assert_eq!(&out[..length], expected);
     assert!(out[length..].iter().all(|byte| *byte == 0xA5));
 }
@@ -47,6 +47,7 @@ fn refusals_of_a_line_call_come_in_order_and_write_nothing() {
     let refused = |image: &[u8], position, room, refusal| {
         let mut out = vec![0xA5; room];
         assert_eq!(line(image, position, &mut out), Err(refusal));
+        assert_eq!(refusal.byte(), 0);
         assert!(out.iter().all(|byte| *byte == 0xA5));
     };
     refused(&too_long, usize::MAX, 0, DecodeError::ImageTooLong);

@@ -20,6 +20,12 @@ fn words(file: &str, start: &str) -> Vec<String> {
 }
 
 #[test]
+fn an_operation_is_shown_as_by_mrc_instruction() {
+    assert_eq!(Operation::MOV.to_string(), "mov");
+    assert_eq!(format!("{:6}|", Operation::JNE), "jne   |");
+}
+
+#[test]
 fn as_in_the_proved_library() {
     let file = "crates/mrc_instruction/src/operation.rt";
     assert_eq!(words(file, "pub enum Operation {"), names());

@@ -1,9 +1,8 @@
 //! The numbered readings, and those that are only run.
 
 use mrc::{
-    decode_at, Address, AddressingMode, Answer, DecodeError, Displacement, Immediate, Instruction,
-    Operand, OperandSet, OperandSize, Operation, RegisterEncoding, Repeat, Segment,
-    SizedRegisterEncoding,
+    decode_at, Address, AddressingMode, DecodeError, Displacement, Immediate, Instruction, Operand,
+    OperandSet, OperandSize, Operation, RegisterEncoding, Repeat, Segment, SizedRegisterEncoding,
 };
 
 const BUDGET: u8 = 15;
@@ -37,12 +36,10 @@ fn answers(
     taken: usize,
     prefixes: usize,
 ) {
-    let expected = Answer {
-        result,
-        taken,
-        prefixes,
-    };
-    assert_eq!(decode_at(bytes, 0, budget), expected, "{bytes:02X?}");
+    let answer = decode_at(bytes, 0, budget);
+    let counts = (answer.taken, answer.prefixes);
+    assert_eq!(answer.result, result, "{bytes:02X?}");
+    assert_eq!(counts, (taken, prefixes), "{bytes:02X?}");
 }
 
 #[test]

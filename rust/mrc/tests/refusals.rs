@@ -57,6 +57,12 @@ fn they_are_numbered_from_1() {
 }
 
 #[test]
+fn each_carries_its_byte_or_0() {
+    let bytes = REFUSALS.map(|(refusal, _)| refusal.byte());
+    assert_eq!(bytes, [0, 0, 3, 9, 0x48, 0x6F, 8, 4, 0x26, 0xF3, 0, 0, 0]);
+}
+
+#[test]
 fn a_refusal_is_an_error_of_rust() {
     let boxed: Box<dyn std::error::Error> = Box::new(EndOfInput);
     assert_eq!(boxed.to_string(), "End of input reached");
