@@ -1,9 +1,15 @@
-use crate::{decode_at, DecodeError, Instruction, Result};
+use crate::{boundary, decode_at, DecodeError, Instruction, Result};
 
 /// The most prefixes that `decode_instruction` reads; one more is refused.
 pub const LARGEST_BUDGET: u8 = 255;
 
-/// Decodes the instruction at the front of an iterator, and takes just the bytes that make the answer.
+/// The most bytes that a decode takes: those of an instruction, behind as many prefixes as the budget allows.
+const MOST_TAKEN: usize = LARGEST_BUDGET as usize + 6;
+
+/// Decodes the instruction at the front of an iterator, and takes just the bytes that make the answer. An iterator that has
+/// ended is not asked again.
+///
+/// The answer is that of [`decode_at`] on the same bytes with [`LARGEST_BUDGET`].
 ///
 /// ```
 /// let mut bytes = [0x8B, 0x07, 0x90].into_iter();
@@ -13,19 +19,22 @@ pub const LARGEST_BUDGET: u8 = 255;
 /// # mrc::Result::Ok(())
 /// ```
 pub fn decode_instruction(it: &mut impl Iterator<Item = u8>) -> Result<Instruction> {
-    let mut bytes = Vec::new();
-    let mut prefixes = 0;
+    let mut bytes = [0; MOST_TAKEN];
+    let (mut taken, mut prefixes) = (0, 0);
     while prefixes <= usize::from(LARGEST_BUDGET) {
-        match front_of(&bytes[prefixes..]) {
+        match front_of(&bytes[prefixes..taken]) {
             Front::Prefix => prefixes += 1,
             Front::Whole => break,
             Front::CutShort => match it.next() {
-                Some(byte) => bytes.push(byte),
+                Some(byte) => {
+                    bytes[taken] = byte;
+                    taken += 1;
+                }
                 None => break,
             },
         }
     }
-    decode_at(&bytes, 0, LARGEST_BUDGET).result
+    decode_at(&bytes[..taken], 0, LARGEST_BUDGET).result
 }
 
 /// What stands at the front of some bytes.
@@ -36,10 +45,15 @@ enum Front {
     CutShort,
 }
 
+const PREFIX: u8 = DecodeError::TooManyPrefixes(0).number();
+const NO_OPCODE: u8 = DecodeError::EndOfInput.number();
+const NO_MORE: u8 = DecodeError::CouldNotReadExtraBytes.number();
+
+/// With a budget of 0 a prefix is one too many.
 fn front_of(bytes: &[u8]) -> Front {
-    match decode_at(bytes, 0, 0).result {
-        Err(DecodeError::TooManyPrefixes(_)) => Front::Prefix,
-        Err(DecodeError::EndOfInput | DecodeError::CouldNotReadExtraBytes) => Front::CutShort,
+    match (boundary::step(bytes, 0, 0) >> 32) as u8 {
+        PREFIX => Front::Prefix,
+        NO_OPCODE | NO_MORE => Front::CutShort,
         _ => Front::Whole,
     }
 }
