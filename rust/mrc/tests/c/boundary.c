@@ -1,4 +1,4 @@
-/* Calls each exported function once from C, through include/mrc.h. Prints each answer that is not the expected one. */
+/* Calls each exported function from C, through include/mrc.h. Prints each answer that is not the expected one. */
 #include "mrc.h"
 
 #include <stdio.h>
@@ -75,6 +75,31 @@ static void line(void)
     expect("refused line", mrc_line_refusal(answer), MRC_END_OF_INPUT);
 }
 
+/* A pointer whose length is 0 is not followed. */
+static void nothing_lent(void)
+{
+    uint8_t out[MRC_DECODE_RECORD];
+    expect("bytes of a decode of nothing", mrc_decode(NULL, 0, 0, 15, out, sizeof out), MRC_DECODE_RECORD);
+    expect("refusal of nothing", out[MRC_AT_REFUSAL], MRC_END_OF_INPUT);
+    mrc_decode(NULL, 0, SIZE_MAX, 15, out, sizeof out);
+    expect("refusal outside of nothing", out[MRC_AT_REFUSAL], MRC_OUTSIDE_INPUT);
+    expect("bytes of a ModRM of nothing", mrc_mrrm(NULL, 0, 0, out, sizeof out), MRC_MRRM_RECORD);
+    expect("refusal of no ModRM", out[MRC_AT_REFUSAL], MRC_COULD_NOT_READ_EXTRA_BYTES);
+    expect("decode into nothing", mrc_decode(NULL, 0, 0, 15, NULL, 0), 0);
+    expect("ModRM into nothing", mrc_mrrm(NULL, 0, 0, NULL, 0), 0);
+    expect("step of nothing", mrc_step(NULL, 0, 0, 15) >> 32, MRC_END_OF_INPUT);
+    expect("line of nothing", mrc_line_refusal(mrc_line(NULL, 0, 0, NULL, 0)), MRC_END_OF_INPUT);
+    const uint8_t nop[] = {0x90};
+    expect("line into nothing", mrc_line_refusal(mrc_line(nop, sizeof nop, 0, NULL, 0)), MRC_NO_ROOM);
+}
+
+static void step(void)
+{
+    const uint8_t bytes[] = {0x26, 0x8B, 0x47, 0xFE};
+    expect("step", mrc_step(bytes, sizeof bytes, 0, 15), 4 + 65536 * 1);
+    expect("refused step", mrc_step(bytes, sizeof bytes, 0, 0), 1 + 65536 * 1 + ((uint64_t)MRC_TOO_MANY_PREFIXES << 32));
+}
+
 int main(void)
 {
     decode();
@@ -82,5 +107,7 @@ int main(void)
     mrrm();
     numbers();
     line();
+    step();
+    nothing_lent();
     return failures != 0;
 }
