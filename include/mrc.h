@@ -20,6 +20,12 @@ enum {
     MRC_LONGEST_IMAGE = 65536 /* the most bytes that mrc_line and mrc_page list */
 };
 
+/* The most bytes of stack that a call takes on x86-64, measured and not proved. A decode calls itself after each prefix. */
+enum {
+    MRC_STACK_USUAL = 8192,   /* with a budget of up to 15, which is that of lines */
+    MRC_STACK_LARGEST = 81920 /* with any budget */
+};
+
 /* Why a call is refused. The byte that a refusal carries is 0 where none is named. */
 enum mrc_refusal {
     MRC_NOT_REFUSED = 0,

@@ -20,6 +20,8 @@ pub struct Answer {
 
 /// Decodes the instruction at a position. More prefixes than the budget are refused.
 ///
+/// Of the stack it takes at most 8 KiB with a budget of up to 15, and at most 80 KiB with any.
+///
 /// ```
 /// let answer = mrc::decode_at(&[0x90, 0xF3, 0xA4], 1, 15);
 /// assert_eq!(answer.result?.operation, mrc::Operation::MOVSB);

@@ -9,7 +9,7 @@ const MOST_TAKEN: usize = LARGEST_BUDGET as usize + 6;
 /// Decodes the instruction at the front of an iterator, and takes just the bytes that make the answer. An iterator that has
 /// ended is not asked again.
 ///
-/// The answer is that of [`decode_at`] on the same bytes with [`LARGEST_BUDGET`].
+/// The answer is that of [`decode_at`] on the same bytes with [`LARGEST_BUDGET`], and it takes as much of the stack.
 ///
 /// ```
 /// let mut bytes = [0x8B, 0x07, 0x90].into_iter();

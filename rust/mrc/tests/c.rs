@@ -46,6 +46,15 @@ fn each_function_answers_c() {
 }
 
 #[test]
+fn each_call_that_decodes_keeps_to_the_stack_of_the_header() {
+    let here = Path::new(env!("CARGO_MANIFEST_DIR"));
+    let program = built(here.join("tests/c/stack.c"), "stack");
+    let output = Command::new(program).output().expect("the program runs");
+    let said = String::from_utf8_lossy(&output.stdout);
+    assert!(output.status.success(), "{said}{:?}", output.status);
+}
+
+#[test]
 fn the_example_lists_a_file() {
     let program = built(root().join("examples/list.c"), "list");
     let bytes: Vec<u8> = (0..LONGEST_IMAGE).map(|place| (place / 7) as u8).collect();

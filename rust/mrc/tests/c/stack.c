@@ -1,0 +1,85 @@
+/* Makes each call that decodes on a stack of just the size that include/mrc.h states, above a page that faults. Prints how
+ * much of it the call reached. */
+#define _DEFAULT_SOURCE
+#define _XOPEN_SOURCE 700
+#include "mrc.h"
+
+#include <stdio.h>
+#include <stdlib.h>
+#include <string.h>
+#include <sys/mman.h>
+#include <ucontext.h>
+
+enum { GUARD = 4096, PAINT = 0xA5, USUAL = 15, LARGEST = 255, LONGEST_RUN = LARGEST + 1 };
+
+static uint8_t bytes[LONGEST_RUN + 6];
+static size_t length;
+static uint8_t budget;
+static uint8_t out[MRC_LONGEST_LINE];
+
+static void decode(void) { mrc_decode(bytes, length, 0, budget, out, sizeof out); }
+static void step(void) { mrc_step(bytes, length, 0, budget); }
+static void line(void) { mrc_line(bytes, length, 0, out, sizeof out); }
+static void line_without_room(void) { mrc_line(bytes, length, 0, out, 1); }
+
+/* As many prefixes, and behind them the longest instruction. */
+static void fill(size_t prefixes)
+{
+    const uint8_t add[] = {0x81, 0x80, 0x34, 0x12, 0x78, 0x56};
+    for (size_t i = 0; i < prefixes; i++)
+        bytes[i] = i % 2 == 0 ? 0x26 : 0xF3;
+    memcpy(bytes + prefixes, add, sizeof add);
+    length = prefixes + sizeof add;
+}
+
+static uint8_t *stack_above_a_guard(size_t size)
+{
+    uint8_t *low = mmap(NULL, GUARD + size, PROT_READ | PROT_WRITE, MAP_PRIVATE | MAP_ANONYMOUS, -1, 0);
+    if (low == MAP_FAILED || mprotect(low, GUARD, PROT_NONE) != 0) {
+        puts("no memory for a stack");
+        exit(1);
+    }
+    return low + GUARD;
+}
+
+/* The bytes of a stack of that size that a call reached. */
+static size_t reached(void (*call)(void), size_t size)
+{
+    static ucontext_t here, there;
+    uint8_t *stack = stack_above_a_guard(size);
+    memset(stack, PAINT, size);
+    getcontext(&there);
+    there.uc_stack.ss_sp = stack;
+    there.uc_stack.ss_size = size;
+    there.uc_link = &here;
+    makecontext(&there, call, 0);
+    swapcontext(&here, &there);
+    size_t untouched = 0;
+    while (untouched < size && stack[untouched] == PAINT)
+        untouched++;
+    munmap(stack - GUARD, GUARD + size);
+    return size - untouched;
+}
+
+static void run(const char *what, void (*call)(void), uint8_t with_budget, size_t size)
+{
+    size_t most = 0;
+    budget = with_budget;
+    for (size_t prefixes = 0; prefixes <= (size_t)with_budget + 1; prefixes++) {
+        fill(prefixes);
+        size_t now = reached(call, size);
+        most = now > most ? now : most;
+    }
+    printf("%s, budget %d: %zu of %zu bytes\n", what, with_budget, most, size);
+}
+
+int main(void)
+{
+    run("decode", decode, USUAL, MRC_STACK_USUAL);
+    run("step", step, USUAL, MRC_STACK_USUAL);
+    run("line", line, USUAL, MRC_STACK_USUAL);
+    run("line without room", line_without_room, USUAL, MRC_STACK_USUAL);
+    run("decode", decode, LARGEST, MRC_STACK_LARGEST);
+    run("step", step, LARGEST, MRC_STACK_LARGEST);
+    return 0;
+}
