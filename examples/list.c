@@ -50,7 +50,7 @@ int main(int count, char **words)
         return fail(words[1], "can't be read");
     if (print_lines((size_t)length) == MRC_IMAGE_TOO_LONG)
         return fail(words[1], "longer than 65,536 bytes");
-    if (fflush(stdout) != 0)
+    if (fflush(stdout) != 0 || ferror(stdout))
         return fail("standard output", "can't be written");
     return 0;
 }

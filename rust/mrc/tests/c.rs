@@ -1,6 +1,6 @@
 //! The header and the example from C: built with `cc`, and run.
 
-use std::fs;
+use std::fs::{self, File};
 use std::path::{Path, PathBuf};
 use std::process::{Command, Output};
 
@@ -80,5 +80,21 @@ fn the_example_says_in_one_line_what_it_cannot_list() {
         assert!(output.stdout.is_empty());
         let said = String::from_utf8_lossy(&output.stderr);
         assert_eq!(said.lines().count(), 1, "{said}");
+    }
+}
+
+#[test]
+fn the_example_says_that_it_cannot_write() {
+    let program = built(root().join("examples/list.c"), "list-unwritten");
+    let image = scratch("unwritten.bin");
+    for length in [1, 4_096, LONGEST_IMAGE] {
+        fs::write(&image, vec![0x90; length]).expect("an image");
+        let full = File::create("/dev/full").expect("a full device");
+        let mut command = Command::new(&program);
+        let output = command.arg(&image).stdout(full).output();
+        let output = output.expect("the program runs");
+        assert_eq!(output.status.code(), Some(1), "{length} bytes");
+        let said = String::from_utf8_lossy(&output.stderr);
+        assert_eq!(said, "list: standard output: can't be written\n");
     }
 }
