@@ -2,18 +2,27 @@
 
 use differential::compare::{Limit, Question, Tally};
 use differential::oracle::{self, USUAL_BUDGET};
-use differential::{fields, modrm, record};
+use differential::refusal::Refusal;
+use differential::{fields, listing, modrm, record};
 use mrc::boundary as ours;
+
+/// A line, or the refusal of a line call with any room.
+type Listed = Result<listing::Line, Refusal>;
 
 /// What a buffer holds before a call.
 const UNTOUCHED: u8 = 0xA5;
 
+/// A decode's record, and the counts of the same decode.
 pub fn decode(tally: &mut Tally, bytes: &[u8], at: usize, budget: u8) {
-    let rust = record::of(&oracle::decode(bytes, at, budget));
+    let rust = oracle::decode(bytes, at, budget);
+    let question = |call| Question::new(call, bytes, at, Limit::Budget(budget));
     let mut out = [UNTOUCHED; record::LENGTH];
     ours::decode(bytes, at, budget, &mut out);
-    tally.note(&rust, &out, || {
-        Question::new("decode", bytes, at, Limit::Budget(budget))
+    tally.note(&record::of(&rust), &out, || question("decode"));
+    let step = ours::step(bytes, at, budget);
+    let rust = record::step(&rust);
+    tally.note(&rust.to_be_bytes(), &step.to_be_bytes(), || {
+        question("step")
     });
 }
 
@@ -85,24 +94,49 @@ pub fn operand_size(tally: &mut Tally, kind: u8, size: u8) {
     });
 }
 
-/// The line call's answer and the whole buffer.
+/// The most room of a line call here: more than any line has.
+pub const MOST_ROOM: usize = 128;
+
+/// A line call's answer, and behind it the buffer with the bytes that follow it.
+type LineCall = [u8; 8 + MOST_ROOM];
+
+/// The line call into a buffer of `room` bytes.
 pub fn line(tally: &mut Tally, image: &[u8], at: usize, room: usize) {
-    let mut rust_out = vec![UNTOUCHED; room];
-    let rust = expected_line(image, at, &mut rust_out);
-    let mut out = vec![UNTOUCHED; room];
-    let ours = ours::line(image, at, &mut out);
-    let whole = |answer: u64, buffer: Vec<u8>| [answer.to_be_bytes().to_vec(), buffer].concat();
-    tally.note(&whole(rust, rust_out), &whole(ours, out), || {
+    line_into(tally, image, at, room, &listing::line(image, at));
+}
+
+/// The line call into a buffer that is one byte too short, into one of just the line's length, into one with room for every
+/// line, and into a larger one.
+pub fn line_by_length(tally: &mut Tally, image: &[u8], at: usize) {
+    let line = listing::line(image, at);
+    let length = line.as_ref().map_or(1, |line| line.text.len());
+    for room in [length - 1, length, mrc::LONGEST_LINE, MOST_ROOM] {
+        line_into(tally, image, at, room, &line);
+    }
+}
+
+fn line_into(tally: &mut Tally, image: &[u8], at: usize, room: usize, line: &Listed) {
+    let rust = line_call(room, |out| write_line(line, out));
+    let ours = line_call(room, |out| ours::line(image, at, out));
+    tally.note(&rust, &ours, || {
         Question::new("line", image, at, Limit::Room(room))
     });
 }
 
-fn expected_line(image: &[u8], at: usize, out: &mut [u8]) -> u64 {
-    match differential::listing::call(image, at, out.len()) {
-        Ok(line) => {
+fn line_call(room: usize, call: impl FnOnce(&mut [u8]) -> u64) -> LineCall {
+    let mut whole = [UNTOUCHED; 8 + MOST_ROOM];
+    let (answer, buffer) = whole.split_at_mut(8);
+    answer.copy_from_slice(&call(&mut buffer[..room]).to_be_bytes());
+    whole
+}
+
+fn write_line(line: &Listed, out: &mut [u8]) -> u64 {
+    match line {
+        Ok(line) if line.text.len() <= out.len() => {
             out[..line.text.len()].copy_from_slice(line.text.as_bytes());
             line.text.len() as u64 + 65_536 * line.taken as u64
         }
+        Ok(_) => u64::from(Refusal::NO_ROOM.number) << 32,
         Err(refusal) => u64::from(refusal.number) << 32,
     }
 }

@@ -10,7 +10,6 @@ use differential::random::Random;
 
 const RANDOM_STRINGS: usize = 65_536;
 const LARGEST_ROOM: usize = 64;
-const LONGEST_LINE: usize = 67;
 
 pub fn short_strings() -> Tally {
     over(256, |first, tally| {
@@ -90,7 +89,7 @@ pub fn rooms() -> Tally {
 pub fn lines() -> Tally {
     over(256, |opcode, tally| {
         cases::every_modrm(opcode as u8, &mut |string| {
-            both::line(tally, string, 0, LONGEST_LINE);
+            both::line_by_length(tally, string, 0);
         });
     })
 }
@@ -98,13 +97,13 @@ pub fn lines() -> Tally {
 pub fn lines_of_an_image(seed: u64) -> Tally {
     let image = cases::random_image(LONGEST_IMAGE, &mut Random::new(seed, 0));
     over(image.len() + 3, |at, tally| {
-        both::line(tally, &image, at, LONGEST_LINE);
+        both::line_by_length(tally, &image, at);
     })
 }
 
 pub fn line_rooms(seed: u64) -> Tally {
     let long = cases::random_image(LONGEST_IMAGE + 1, &mut Random::new(seed, 1));
-    over(LONGEST_LINE + 2, |room, tally| {
+    over(both::MOST_ROOM + 1, |room, tally| {
         for stream in 0..256 {
             let image = cases::random_string(&mut Random::new(seed, stream));
             for at in cases::positions(&image) {

@@ -20,6 +20,15 @@ pub struct Line {
 
 /// The line at a position, or the refusal of a call whose buffer has `room` bytes.
 pub fn call(image: &[u8], at: usize, room: usize) -> Result<Line, Refusal> {
+    let line = line(image, at)?;
+    if line.text.len() > room {
+        return Err(Refusal::NO_ROOM);
+    }
+    Ok(line)
+}
+
+/// The line at a position, or the refusal of a call with any room.
+pub fn line(image: &[u8], at: usize) -> Result<Line, Refusal> {
     if image.len() > LONGEST_IMAGE {
         return Err(Refusal::IMAGE_TOO_LONG);
     }
@@ -29,11 +38,7 @@ pub fn call(image: &[u8], at: usize, room: usize) -> Result<Line, Refusal> {
     if at == image.len() {
         return Err(Refusal::END_OF_INPUT);
     }
-    let line = line_at(image, at);
-    if line.text.len() > room {
-        return Err(Refusal::NO_ROOM);
-    }
-    Ok(line)
+    Ok(line_at(image, at))
 }
 
 fn line_at(image: &[u8], at: usize) -> Line {

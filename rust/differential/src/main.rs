@@ -75,12 +75,12 @@ fn run(seed: u64) -> Tally {
 
 fn lines(seed: u64, family: &mut impl FnMut(&str, Tally)) {
     family(
-        "a line of every opcode with every ModRM byte",
+        "a line of every opcode with every ModRM byte, in four rooms",
         families::lines(),
     );
     family(
-        "a line at every position of an image",
+        "a line at every position of an image, in four rooms",
         families::lines_of_an_image(seed),
     );
-    family("line buffers of 0 to 68 bytes", families::line_rooms(seed));
+    family("line buffers of 0 to 128 bytes", families::line_rooms(seed));
 }

@@ -50,6 +50,16 @@ pub fn of(answer: &Answer) -> Record {
     record
 }
 
+/// An answer's counts and number as `mrc_step` gives them: taken, 65,536 times the prefixes, and 2^32 times the refusal's
+/// number.
+pub fn step(answer: &Answer) -> u64 {
+    let number = match answer.reading {
+        Ok(_) => 0,
+        Err(refusal) => u64::from(refusal.number),
+    };
+    answer.taken as u64 + ((answer.prefixes as u64) << 16) + (number << 32)
+}
+
 /// What `spaced` has in its columns: refusal, byte, taken, prefixes, operation, repeat, destination, source.
 pub const HEADING: &str = "no by tak. pre. op re destination  source";
 
@@ -190,6 +200,12 @@ mod tests {
         assert_eq!(operation_code(Operation::XOR), 45);
         assert_eq!(operation_code(Operation::MOVSB), 46);
         assert_eq!(operation_code(Operation::SALC), 96);
+    }
+
+    #[test]
+    fn a_step_has_both_counts_and_the_number() {
+        assert_eq!(step(&decode(&[0xF3, 0xA4], 0, 15)), 0x1_0002);
+        assert_eq!(step(&decode(&[0x26, 0xA4], 0, 15)), 0x9_0001_0002);
     }
 
     #[test]
