@@ -91,10 +91,10 @@ fn is_record(answer: &[u8]) -> bool {
 }
 
 fn shown(answer: &[u8]) -> String {
-    if is_record(answer) {
-        record::spaced(answer)
-    } else {
-        hex(answer, " ")
+    match std::str::from_utf8(answer) {
+        _ if is_record(answer) => record::spaced(answer),
+        Ok(text) if !text.contains(char::is_control) => text.to_string(),
+        _ => hex(answer, " "),
     }
 }
 

@@ -1,6 +1,6 @@
 //! The families of cases. Each answers its tally.
 
-use crate::both;
+use crate::{both, own_types};
 use differential::cases;
 use differential::compare::{over, Tally};
 use differential::fields::kinds_and_sizes;
@@ -74,6 +74,29 @@ pub fn operand_size() -> Tally {
     for (kind, size) in kinds_and_sizes() {
         both::operand_size(&mut tally, kind, size);
     }
+    tally
+}
+
+pub fn own_types(seed: u64) -> Tally {
+    let mut tally = over(256, |first, tally| {
+        own_types::fields(tally, first as u8);
+        cases::short_strings(first as u8, 2, &mut |string| {
+            own_types::decode(tally, string)
+        });
+        for front in cases::FRONTS {
+            for (modrm, tail) in (0..=255).zip(cases::TAILS.into_iter().cycle()) {
+                own_types::decode(tally, &[front, &[first as u8, modrm], &tail].concat());
+            }
+        }
+        for tail in cases::TAILS {
+            let string = [&[first as u8][..], &tail].concat();
+            (1..=string.len()).for_each(|length| own_types::mrrm(tally, &string[..length]));
+        }
+    });
+    tally.add(over(RANDOM_STRINGS, |stream, tally| {
+        let string = cases::random_string(&mut Random::new(seed, stream as u64));
+        own_types::decode(tally, &string);
+    }));
     tally
 }
 

@@ -3,7 +3,7 @@
 pub mod case;
 pub mod cases;
 pub mod compare;
-mod counted;
+pub mod counted;
 pub mod fields;
 pub mod listing;
 pub mod modrm;

@@ -2,6 +2,7 @@
 
 mod both;
 mod families;
+mod own_types;
 
 use differential::compare::Tally;
 use std::env;
@@ -51,6 +52,7 @@ fn run(seed: u64) -> Tally {
         "operand_size of each kind and size",
         families::operand_size(),
     );
+    family("the types of rust/mrc", families::own_types(seed));
     family("buffers of 0 to 64 bytes", families::rooms());
     family(
         "every string of up to three bytes",
