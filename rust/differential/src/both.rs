@@ -11,6 +11,8 @@ type Listed = Result<listing::Line, Refusal>;
 
 /// What a buffer holds before a call.
 const UNTOUCHED: u8 = 0xA5;
+/// More room than any line has.
+pub const MUCH_ROOM: usize = 128;
 
 /// A decode's record, and the counts of the same decode.
 pub fn decode(tally: &mut Tally, bytes: &[u8], at: usize, budget: u8) {
@@ -94,11 +96,16 @@ pub fn operand_size(tally: &mut Tally, kind: u8, size: u8) {
     });
 }
 
-/// The most room of a line call here: more than any line has.
-pub const MOST_ROOM: usize = 128;
+/// The bytes behind a lent buffer that no call may change.
+const MARGIN: usize = 16;
 
-/// A line call's answer, and behind it the buffer with the bytes that follow it.
-type LineCall = [u8; 8 + MOST_ROOM];
+/// A call into a buffer of `room` bytes: its answer, and behind it the buffer and a margin.
+fn called(room: usize, call: impl FnOnce(&mut [u8]) -> u64) -> Vec<u8> {
+    let mut whole = vec![UNTOUCHED; 8 + room + MARGIN];
+    let answer = call(&mut whole[8..8 + room]);
+    whole[..8].copy_from_slice(&answer.to_be_bytes());
+    whole
+}
 
 /// The line call into a buffer of `room` bytes.
 pub fn line(tally: &mut Tally, image: &[u8], at: usize, room: usize) {
@@ -110,33 +117,62 @@ pub fn line(tally: &mut Tally, image: &[u8], at: usize, room: usize) {
 pub fn line_by_length(tally: &mut Tally, image: &[u8], at: usize) {
     let line = listing::line(image, at);
     let length = line.as_ref().map_or(1, |line| line.text.len());
-    for room in [length - 1, length, mrc::LONGEST_LINE, MOST_ROOM] {
+    for room in [length - 1, length, mrc::LONGEST_LINE, MUCH_ROOM] {
         line_into(tally, image, at, room, &line);
     }
 }
 
 fn line_into(tally: &mut Tally, image: &[u8], at: usize, room: usize, line: &Listed) {
-    let rust = line_call(room, |out| write_line(line, out));
-    let ours = line_call(room, |out| ours::line(image, at, out));
+    let rust = called(room, |out| write_line(line, out));
+    let ours = called(room, |out| ours::line(image, at, out));
     tally.note(&rust, &ours, || {
         Question::new("line", image, at, Limit::Room(room))
     });
 }
 
-fn line_call(room: usize, call: impl FnOnce(&mut [u8]) -> u64) -> LineCall {
-    let mut whole = [UNTOUCHED; 8 + MOST_ROOM];
-    let (answer, buffer) = whole.split_at_mut(8);
-    answer.copy_from_slice(&call(&mut buffer[..room]).to_be_bytes());
-    whole
-}
-
 fn write_line(line: &Listed, out: &mut [u8]) -> u64 {
     match line {
         Ok(line) if line.text.len() <= out.len() => {
-            out[..line.text.len()].copy_from_slice(line.text.as_bytes());
+            write_front(out, &line.text);
             line.text.len() as u64 + 65_536 * line.taken as u64
         }
         Ok(_) => u64::from(Refusal::NO_ROOM.number) << 32,
         Err(refusal) => u64::from(refusal.number) << 32,
     }
+}
+
+/// The page call into a buffer of `room` bytes. Answers the bytes that the page accounts for.
+pub fn page(tally: &mut Tally, image: &[u8], at: usize, room: usize) -> usize {
+    let page = listing::page(image, at, room);
+    let rust = called(room, |out| {
+        write_front(out, &page.text);
+        page.text.len() as u64 + ((page.taken as u64) << 32)
+    });
+    let ours = called(room, |out| ours::page(image, at, out));
+    tally.note(&rust, &ours, || {
+        Question::new("page", image, at, Limit::Room(room))
+    });
+    page.taken
+}
+
+/// Our pages of a whole image, joined, beside its lines.
+pub fn pages(tally: &mut Tally, image: &[u8], room: usize) {
+    let mut out = vec![UNTOUCHED; room];
+    let (mut joined, mut at) = (Vec::new(), 0);
+    loop {
+        let page = mrc::page(image, at, &mut out);
+        joined.extend(&out[..page.length]);
+        at += page.taken;
+        if page.taken == 0 {
+            break;
+        }
+    }
+    let lines = listing::page(image, 0, usize::MAX);
+    tally.note(lines.text.as_bytes(), &joined, || {
+        Question::new("pages", image, 0, Limit::Room(room))
+    });
+}
+
+fn write_front(out: &mut [u8], text: &str) {
+    out[..text.len()].copy_from_slice(text.as_bytes());
 }

@@ -10,6 +10,8 @@ use differential::random::Random;
 
 const RANDOM_STRINGS: usize = 65_536;
 const LARGEST_ROOM: usize = 64;
+/// Rooms for one line, for several, for a page of the program `list`, and for all lines of an image.
+const PAGE_ROOMS: [usize; 7] = [85, 86, 100, 255, 1_000, 8_192, 85 * LONGEST_IMAGE];
 
 pub fn short_strings() -> Tally {
     over(256, |first, tally| {
@@ -126,7 +128,7 @@ pub fn lines_of_an_image(seed: u64) -> Tally {
 
 pub fn line_rooms(seed: u64) -> Tally {
     let long = cases::random_image(LONGEST_IMAGE + 1, &mut Random::new(seed, 1));
-    over(both::MOST_ROOM + 1, |room, tally| {
+    over(both::MUCH_ROOM + 1, |room, tally| {
         for stream in 0..256 {
             let image = cases::random_string(&mut Random::new(seed, stream));
             for at in cases::positions(&image) {
@@ -136,5 +138,30 @@ pub fn line_rooms(seed: u64) -> Tally {
         for at in cases::positions(&long[..16]).chain(LONGEST_IMAGE - 1..=LONGEST_IMAGE + 2) {
             both::line(tally, &long, at, room);
         }
+    })
+}
+
+pub fn pages(seed: u64) -> Tally {
+    let image = cases::random_image(LONGEST_IMAGE, &mut Random::new(seed, 2));
+    over(PAGE_ROOMS.len(), |place, tally| {
+        let room = PAGE_ROOMS[place];
+        let mut at = 0;
+        while at < image.len() {
+            at += both::page(tally, &image, at, room);
+        }
+        both::pages(tally, &image, room);
+    })
+}
+
+pub fn page_rooms(seed: u64) -> Tally {
+    let long = cases::random_image(LONGEST_IMAGE + 1, &mut Random::new(seed, 1));
+    over(4 * both::MUCH_ROOM, |room, tally| {
+        for stream in 0..64 {
+            let image = cases::random_string(&mut Random::new(seed, stream));
+            for at in cases::positions(&image) {
+                both::page(tally, &image, at, room);
+            }
+        }
+        both::page(tally, &long, room, room);
     })
 }

@@ -11,7 +11,7 @@ pub const LONGEST_IMAGE: usize = 65_536;
 const BYTES_SHOWN: usize = 7;
 const BYTE_FIELD: usize = 21;
 
-/// One line with its LF, and the bytes that it accounts for.
+/// A line with its LF, or several, and the bytes of the image accounted for.
 #[derive(Debug)]
 pub struct Line {
     pub text: String,
@@ -39,6 +39,19 @@ pub fn line(image: &[u8], at: usize) -> Result<Line, Refusal> {
         return Err(Refusal::END_OF_INPUT);
     }
     Ok(line_at(image, at))
+}
+
+/// The lines from a position on that fit whole into a room, and the bytes that they account for.
+pub fn page(image: &[u8], at: usize, room: usize) -> Line {
+    let mut page = Line {
+        text: String::new(),
+        taken: 0,
+    };
+    while let Ok(line) = call(image, at + page.taken, room - page.text.len()) {
+        page.text += &line.text;
+        page.taken += line.taken;
+    }
+    page
 }
 
 fn line_at(image: &[u8], at: usize) -> Line {
@@ -199,6 +212,16 @@ mod tests {
             text,
             "0000  26 26 81 80 34 12 78   ADD WORD ES:[BX+SI+1234], 5678\n"
         );
+    }
+
+    #[test]
+    fn a_page_has_whole_lines() {
+        let image = [0x90, 0x60, 0x90];
+        let page = page(&image, 1, 70);
+        assert_eq!(page.text, list(&image)[33..]);
+        assert_eq!((page.text.len(), page.taken), (68, 2));
+        let page = super::page(&image, 1, 67);
+        assert_eq!((page.text.len(), page.taken), (35, 1));
     }
 
     #[test]

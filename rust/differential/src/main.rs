@@ -85,4 +85,6 @@ fn lines(seed: u64, family: &mut impl FnMut(&str, Tally)) {
         families::lines_of_an_image(seed),
     );
     family("line buffers of 0 to 128 bytes", families::line_rooms(seed));
+    family("pages of an image, and joined", families::pages(seed));
+    family("page buffers of 0 to 511 bytes", families::page_rooms(seed));
 }

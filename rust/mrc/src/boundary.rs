@@ -39,6 +39,13 @@ mod exported {
             out: *mut u8,
             room: usize,
         ) -> u64;
+        pub fn mrc_page(
+            image: *const u8,
+            length: usize,
+            position: usize,
+            out: *mut u8,
+            room: usize,
+        ) -> u64;
     }
 }
 
@@ -85,6 +92,14 @@ pub fn line(image: &[u8], position: usize, out: &mut [u8]) -> u64 {
     let (input, room) = (image.as_ptr(), out.len());
     // SAFETY: as in `decode`.
     unsafe { exported::mrc_line(input, image.len(), position, out.as_mut_ptr(), room) }
+}
+
+/// The length of a page's text, and 2^32 times the bytes of the image that its lines account for.
+#[inline]
+pub fn page(image: &[u8], position: usize, out: &mut [u8]) -> u64 {
+    let (input, room) = (image.as_ptr(), out.len());
+    // SAFETY: as in `decode`.
+    unsafe { exported::mrc_page(input, image.len(), position, out.as_mut_ptr(), room) }
 }
 
 /// The bytes taken by a decode, 65,536 times its prefixes, and 2^32 times its refusal's number.

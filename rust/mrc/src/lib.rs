@@ -14,6 +14,7 @@ mod line;
 mod mrrm;
 mod operand;
 mod operation;
+mod page;
 mod register;
 mod stream;
 
@@ -26,5 +27,6 @@ pub use line::{line, lines, Line, Lines, Written, LONGEST_IMAGE, LONGEST_LINE};
 pub use mrrm::{read_mrrm, ModRegRM, MrrmAnswer, RegisterOrMemory};
 pub use operand::{AddressingMode, Displacement, Immediate, Operand, OperandSize};
 pub use operation::Operation;
+pub use page::{page, Page};
 pub use register::{RegisterEncoding, Segment, SizedRegisterEncoding};
 pub use stream::{decode_instruction, LARGEST_BUDGET};

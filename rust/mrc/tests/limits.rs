@@ -1,6 +1,6 @@
 //! Inputs at the ends of what can be asked: nothing lent, lengths beyond 2^32, and the largest positions.
 
-use mrc::{boundary, decode_at, line, read_mrrm, DecodeError, Operation, LONGEST_LINE};
+use mrc::{boundary, decode_at, line, page, read_mrrm, DecodeError, Operation, LONGEST_LINE};
 use std::alloc::{alloc_zeroed, Layout};
 
 /// Taken modulo 2^32 it has no room for a record.
@@ -28,6 +28,8 @@ fn nothing_lent() {
     assert_eq!(line(&[], 0, &mut []), Err(DecodeError::EndOfInput));
     assert_eq!(line(&[], 1, &mut []), Err(DecodeError::OutsideInput));
     assert_eq!(line(&[0x90], 0, &mut []), Err(DecodeError::NoRoom));
+    assert_eq!(boundary::page(&[], 0, &mut []), 0);
+    assert_eq!(boundary::page(&[0x90], 0, &mut []), 0);
 }
 
 #[test]
@@ -48,6 +50,7 @@ fn is_outside(bytes: &[u8], position: usize) {
     assert_eq!(boundary::step(bytes, position, 15), 11 << 32);
     let mut out = [0xA5; LONGEST_LINE];
     assert_eq!(line(bytes, position, &mut out), Err(refusal));
+    assert_eq!(boundary::page(bytes, position, &mut out), 0);
     assert_eq!(out, [0xA5; LONGEST_LINE]);
 }
 
@@ -80,6 +83,7 @@ fn is_too_long(image: &[u8]) {
         let mut out = [0xA5; LONGEST_LINE];
         let answer = line(image, position, &mut out);
         assert_eq!(answer, Err(DecodeError::ImageTooLong));
+        assert_eq!(boundary::page(image, position, &mut out), 0);
         assert_eq!(out, [0xA5; LONGEST_LINE]);
     }
 }
@@ -95,5 +99,7 @@ fn a_buffer_of_more_than_four_gib() {
         let expected = b"0000  90                     NOP\n";
         assert_eq!(&out[..written.length], expected);
         assert!(out[written.length..4096].iter().all(|byte| *byte == 0));
+        let page = page(&[0x90, 0x90], 0, &mut out);
+        assert_eq!((page.length, page.taken), (2 * expected.len(), 2));
     }
 }

@@ -75,6 +75,21 @@ static void line(void)
     expect("refused line", mrc_line_refusal(answer), MRC_END_OF_INPUT);
 }
 
+/* A buffer with room for the first line and not for the second. */
+static void page(void)
+{
+    const uint8_t image[] = {0x90, 0xF3, 0xA4};
+    const char first[] = "0000  90                     NOP\n";
+    uint8_t out[40];
+    memset(out, 0xA5, sizeof out);
+    uint64_t answer = mrc_page(image, sizeof image, 0, out, sizeof out);
+    expect("length of a page", mrc_page_length(answer), strlen(first));
+    expect("taken by a page", mrc_page_taken(answer), 1);
+    expect("page", (uint64_t)memcmp(out, first, strlen(first)), 0);
+    expect("behind a page", out[strlen(first)], 0xA5);
+    expect("page at the end", mrc_page(image, sizeof image, sizeof image, out, sizeof out), 0);
+}
+
 /* A pointer whose length is 0 is not followed. */
 static void nothing_lent(void)
 {
@@ -91,6 +106,8 @@ static void nothing_lent(void)
     expect("line of nothing", mrc_line_refusal(mrc_line(NULL, 0, 0, NULL, 0)), MRC_END_OF_INPUT);
     const uint8_t nop[] = {0x90};
     expect("line into nothing", mrc_line_refusal(mrc_line(nop, sizeof nop, 0, NULL, 0)), MRC_NO_ROOM);
+    expect("page of nothing", mrc_page(NULL, 0, 0, NULL, 0), 0);
+    expect("page into nothing", mrc_page(nop, sizeof nop, 0, NULL, 0), 0);
 }
 
 static void step(void)
@@ -107,6 +124,7 @@ int main(void)
     mrrm();
     numbers();
     line();
+    page();
     step();
     nothing_lent();
     return failures != 0;

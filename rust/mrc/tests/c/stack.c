@@ -16,11 +16,15 @@ static uint8_t bytes[LONGEST_RUN + 6];
 static size_t length;
 static uint8_t budget;
 static uint8_t out[MRC_LONGEST_LINE];
+static uint8_t large[8192];
 
 static void decode(void) { mrc_decode(bytes, length, 0, budget, out, sizeof out); }
 static void step(void) { mrc_step(bytes, length, 0, budget); }
 static void line(void) { mrc_line(bytes, length, 0, out, sizeof out); }
 static void line_without_room(void) { mrc_line(bytes, length, 0, out, 1); }
+
+static void page(void) { mrc_page(bytes, length, 0, large, sizeof large); }
+static void page_of_one_line(void) { mrc_page(bytes, length, 0, out, sizeof out); }
 
 /* As many prefixes, and behind them the longest instruction. */
 static void fill(size_t prefixes)
@@ -79,6 +83,8 @@ int main(void)
     run("step", step, USUAL, MRC_STACK_USUAL);
     run("line", line, USUAL, MRC_STACK_USUAL);
     run("line without room", line_without_room, USUAL, MRC_STACK_USUAL);
+    run("page", page, USUAL, MRC_STACK_USUAL);
+    run("page of one line", page_of_one_line, USUAL, MRC_STACK_USUAL);
     run("decode", decode, LARGEST, MRC_STACK_LARGEST);
     run("step", step, LARGEST, MRC_STACK_LARGEST);
     return 0;
