@@ -34,20 +34,31 @@ fn code_or_refusal<T>(found: Result<T>, code: impl Fn(T) -> u32) -> u32 {
     })
 }
 
-/// Each kind of operand with each size that it may have.
+/// Every kind with every size, also those that no operand has.
 pub fn kinds_and_sizes() -> impl Iterator<Item = (u8, u8)> {
-    let sized = (DIRECT..=REGISTER).flat_map(|kind| [(kind, 0), (kind, 1)]);
-    sized.chain((SEGMENT..=SEGMENT_AND_OFFSET).map(|kind| (kind, 0)))
+    (0..=255).flat_map(|kind| (0..=255).map(move |size| (kind, size)))
 }
 
-/// 0 Byte, 1 Word, 2 where the Rust panics.
+/// 0 Byte, 1 Word, 2 where the Rust panics and where there is no such operand.
 pub fn operand_size(kind: u8, size: u8) -> u8 {
+    if !exists(kind, size) {
+        return NO_SIZE;
+    }
     let operand = operand_of(kind, size);
     let hook = panic::take_hook();
     panic::set_hook(Box::new(|_| {}));
     let answer = panic::catch_unwind(|| operand.operand_size() as u8);
     panic::set_hook(hook);
     answer.unwrap_or(NO_SIZE)
+}
+
+/// Memory and registers have a size of their own; with the others it does not count.
+fn exists(kind: u8, size: u8) -> bool {
+    match kind {
+        DIRECT..=REGISTER => size < NO_SIZE,
+        SEGMENT..=SEGMENT_AND_OFFSET => true,
+        _ => false,
+    }
 }
 
 fn operand_of(kind: u8, size: u8) -> Operand {
@@ -87,10 +98,9 @@ mod tests {
     }
 
     #[test]
-    fn two_kinds_have_no_size() {
-        let unsized_kinds: Vec<u8> = kinds_and_sizes()
-            .filter(|&(kind, size)| operand_size(kind, size) == NO_SIZE)
-            .map(|(kind, _)| kind)
+    fn two_kinds_of_operand_have_no_size() {
+        let unsized_kinds: Vec<u8> = (DIRECT..=SEGMENT_AND_OFFSET)
+            .filter(|kind| operand_size(*kind, 0) == NO_SIZE)
             .collect();
         assert_eq!(unsized_kinds, [DISPLACEMENT_NONE, SEGMENT_AND_OFFSET]);
     }

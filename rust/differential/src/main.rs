@@ -49,7 +49,7 @@ fn run(seed: u64) -> Tally {
     };
     family("field readers on 0 to 255", families::field_readers());
     family(
-        "operand_size of each kind and size",
+        "operand_size of every kind and size",
         families::operand_size(),
     );
     family("the types of rust/mrc", families::own_types(seed));

@@ -60,6 +60,9 @@ static void numbers(void)
     expect("refused addressing", mrc_addressing(8), MRC_INVALID_INDIRECT_MEMORY_ENCODING * 65536u + 8);
     expect("size of a register", mrc_operand_size(MRC_REGISTER, MRC_WORD), MRC_WORD);
     expect("size of a far address", mrc_operand_size(MRC_SEGMENT_AND_OFFSET, 0), MRC_NO_SIZE);
+    expect("size of no operand", mrc_operand_size(MRC_ABSENT, MRC_WORD), MRC_NO_SIZE);
+    expect("size of no kind", mrc_operand_size(MRC_SEGMENT_AND_OFFSET + 1, MRC_WORD), MRC_NO_SIZE);
+    expect("no size of a register", mrc_operand_size(MRC_REGISTER, MRC_NO_SIZE), MRC_NO_SIZE);
 }
 
 static void line(void)
