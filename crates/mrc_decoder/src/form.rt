@@ -93,32 +93,32 @@ pub fn form_of(opcode: u8) -> Form
         ),
         0x83 => Form::WithModRM(WithModRM::ByteToRegisterOrMemory, OperandSize::Word),
         0x84 => Form::WithModRM(
-            WithModRM::RegisterOrMemoryAndRegister(Operation::TEST, Direction::Detect),
+            WithModRM::RegisterOrMemoryAndRegister(Operation::TEST, Direction::Detect), // 84 rm,reg
             OperandSize::Byte,
         ),
         0x85 => Form::WithModRM(
-            WithModRM::RegisterOrMemoryAndRegister(Operation::TEST, Direction::Detect),
+            WithModRM::RegisterOrMemoryAndRegister(Operation::TEST, Direction::Detect), // 85 rm,reg
             OperandSize::Word,
         ),
         0x86 => Form::WithModRM(
-            WithModRM::RegisterOrMemoryAndRegister(Operation::XCHG, Direction::RegMemFirst),
+            WithModRM::RegisterOrMemoryAndRegister(Operation::XCHG, Direction::RegMemFirst), // 86 rm,reg
             OperandSize::Byte,
         ),
         0x87 => Form::WithModRM(
-            WithModRM::RegisterOrMemoryAndRegister(Operation::XCHG, Direction::RegMemFirst),
+            WithModRM::RegisterOrMemoryAndRegister(Operation::XCHG, Direction::RegMemFirst), // 87 rm,reg
             OperandSize::Word,
         ),
         0x88 | 0x8A => Form::WithModRM(
-            WithModRM::RegisterOrMemoryAndRegister(Operation::MOV, Direction::Detect),
+            WithModRM::RegisterOrMemoryAndRegister(Operation::MOV, Direction::Detect), // 88 rm,reg; 8A reg,rm
             OperandSize::Byte,
         ),
         0x89 | 0x8B => Form::WithModRM(
-            WithModRM::RegisterOrMemoryAndRegister(Operation::MOV, Direction::Detect),
+            WithModRM::RegisterOrMemoryAndRegister(Operation::MOV, Direction::Detect), // 89 rm,reg; 8B reg,rm
             OperandSize::Word,
         ),
         0x8C | 0x8E => Form::WithModRM(WithModRM::RegisterOrMemoryAndSegment, OperandSize::Word),
         0x8D => Form::WithModRM(
-            WithModRM::RegisterOrMemoryAndRegister(Operation::LEA, Direction::RegFirst),
+            WithModRM::RegisterOrMemoryAndRegister(Operation::LEA, Direction::RegFirst), // 8D reg,rm
             OperandSize::Word,
         ),
         0x8F => Form::WithModRM(WithModRM::Pop, OperandSize::Word),
@@ -150,11 +150,11 @@ pub fn form_of(opcode: u8) -> Form
         0xC2 => Form::OnDisplacement(Operation::RET, OperandSize::Word),
         0xC3 | 0xCB => Form::OpcodeAlone(OpcodeAlone::NoOperand(Operation::RET)),
         0xC4 => Form::WithModRM(
-            WithModRM::RegisterOrMemoryAndRegister(Operation::LES, Direction::RegFirst),
+            WithModRM::RegisterOrMemoryAndRegister(Operation::LES, Direction::RegFirst), // C4 reg,rm
             OperandSize::Word,
         ),
         0xC5 => Form::WithModRM(
-            WithModRM::RegisterOrMemoryAndRegister(Operation::LDS, Direction::RegFirst),
+            WithModRM::RegisterOrMemoryAndRegister(Operation::LDS, Direction::RegFirst), // C5 reg,rm
             OperandSize::Word,
         ),
         0xC6 => Form::WithModRM(
