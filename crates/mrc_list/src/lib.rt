@@ -1,50 +1,69 @@
-// The listing of standard input on standard output: what the program `list` does.
+// The listing of standard input on standard output: what the program `list` does. What it decides is promised, in `reading` and `listing`;
+// the functions here move bytes between those and the system.
+pub mod listing;
+pub mod reading;
+
+use crate::listing::Turn;
+use crate::listing::next_page;
+use crate::listing::too_long;
+use crate::reading::Input;
+use crate::reading::Reading;
+use crate::reading::after_read;
+use crate::reading::start;
+use crate::reading::wanted;
 use libc::STDERR_FILENO;
 use libc::STDIN_FILENO;
 use libc::STDOUT_FILENO;
-use mrc_line::line::OFFSETS;
-use mrc_line::page::write_page;
-ghost use Prim.Native.Nat.{_≤_};
+ghost use Prim.Native.Nat.{_≤_, _<_};
 ghost use lib.ListN.{length};
+ghost use Rattle.mrc_line.specs.Target.{offsets};
+ghost use Rattle.mrc_list.specs.Reading.{Fits};
 
-// How many bytes of a buffer were read, or that a read failed.
-enum Input {
-    Bytes(usize),
-    Failed,
-}
-
-// Reads until the buffer is full or the input ends.
-fn read_all(buf: &mut [u8]) -> Input {
-    let mut n = 0;
-    while n < buf.len() {
-        let got = libc::read(STDIN_FILENO, &mut buf[n..]);
-        if got < 0 {
-            return Input::Failed;
+// Reads standard input to its end, or until a byte too many is there.
+fn read_input(image: &mut [u8]) -> Input
+    requires { ⌜ offsets < length (now image) ⌝ }
+    ensures { λ r. ⌜ Fits r ⌝ }
+{
+    let mut there = start();
+    loop {
+        let end = there + wanted(there);
+        let got = libc::read(STDIN_FILENO, &mut image[there..end]);
+        match after_read(there, got) {
+            Reading::More(filled) => {
+                there = filled;
+            }
+            Reading::Read(input) => {
+                return input;
+            }
         }
-        let more = io::count(got, &buf[n..]);
-        if more == 0 {
-            return Input::Bytes(n);
-        }
-        n += more;
     }
-    Input::Bytes(n)
 }
 
-// Writes the image's listing, a page of lines at a time, and answers whether all of it was written.
-fn write_pages(image: &[u8]) -> bool
-    requires { ⌜ length (now image) ≤ 65536 ⌝ }
+// Writes the image's listing a page at a time, and answers whether all of it was written.
+fn write_listing(image: &[u8]) -> bool
+    requires { ⌜ length (now image) ≤ offsets ⌝ }
 {
     let mut out = [0u8; 8192];
-    let mut at = 0;
-    while at < image.len() {
-        let p = write_page(image, at, &mut out);
-        let len = p.len;
-        at = p.next;
-        if !io::write_all(STDOUT_FILENO, &out[..len]) {
-            return false;
+    let mut at = start();
+    loop {
+        match next_page(image, at, &mut out) {
+            Turn::Page(page) => {
+                let len = page.len;
+                if !io::write_all(STDOUT_FILENO, &out[..len]) {
+                    return false;
+                }
+                at = page.next;
+            }
+            Turn::Finished => {
+                return true;
+            }
         }
     }
-    true
+}
+
+fn write_too_long() -> bool {
+    let line = too_long();
+    io::write_all(STDOUT_FILENO, &line)
 }
 
 fn cannot_read() {
@@ -55,22 +74,22 @@ fn cannot_write() {
     io::write_all(STDERR_FILENO, b"list: cannot write standard output\n");
 }
 
-// Lists the image that standard input holds, a line for each step from 0. Where it has more than 65,536 bytes it says only that: whether a
-// byte more comes is seen before anything is written.
+// Lists the image that standard input holds, a line for each step from 0. For an input that is too long it says only that.
 pub fn list() {
     let mut image = [0u8; 65537];
-    match read_all(&mut image) {
-        Input::Failed => cannot_read(),
-        Input::Bytes(n) => {
-            if OFFSETS < n {
-                if !io::write_all(STDOUT_FILENO, b"TOO LONG\n") {
-                    cannot_write();
-                }
-                return;
-            }
-            if !write_pages(&image[..n]) {
+    match read_input(&mut image) {
+        Input::Image(n) => {
+            if !write_listing(&image[..n]) {
                 cannot_write();
             }
+        }
+        Input::TooLong => {
+            if !write_too_long() {
+                cannot_write();
+            }
+        }
+        Input::Failed => {
+            cannot_read();
         }
     }
 }
