@@ -73,6 +73,10 @@ two s at a b h =
 pub none : (s : List ℕ) (at : ℕ) → Put 0 s at [] s at
 none s at = record { end = omega arith; most = omega arith; text = sym (append-nil (take at s)); rest = refl }
 
+-- an empty piece at the start leaves the buffer as it was
+pub kept : {n : ℕ} {s t d : List ℕ} {r : ℕ} → Put n s 0 t d r → length t ≡ 0 → d ≡ s
+kept {s = s} {d = d} {r = r} p e = let z : r ≡ 0 = omega (arith, p .end) in subst (λ (m : ℕ). drop m d ≡ drop m s) z (p .rest)
+
 -- a bound that is larger
 pub within : {n m : ℕ} {s : List ℕ} {at : ℕ} {t d : List ℕ} {r : ℕ} → n ≤ m → Put n s at t d r → Put m s at t d r
 within h p = record { end = p .end; most = omega (arith, p .most); text = p .text; rest = p .rest }

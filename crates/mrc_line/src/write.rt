@@ -16,7 +16,7 @@ const BUDGET: u8 = 15;
 
 const LONGEST: usize = 85;
 
-// Where `out` may be too short, the line is made in a buffer of the function's own first.
+// Where `out` may be too short, the line is made in a buffer of the function's own first, and all of it is copied or none.
 pub fn write_line(out: &mut [u8], names: &[[u8; 6]; 97], image: &[u8], at: usize) -> LineAnswer
     requires { ⌜ (now names ≡ nameTable) × (length (now image) ≤ offsets) × (at < length (now image)) ⌝ }
     ensures { λ r. ⌜ Listed (now (image .entry)) at (now (out .entry)) r (now (out .exit)) ⌝ }
@@ -32,9 +32,13 @@ pub fn write_line(out: &mut [u8], names: &[[u8; 6]; 97], image: &[u8], at: usize
     let w = put_step(&mut buf, 0, names, image, at, answer);
     let len = w.end;
     let taken = w.taken;
+    let mut copied = len;
     if out.len() < len {
+        copied = 0;
+    }
+    put_bytes(out, 0, &buf[..copied]);
+    if copied < len {
         return LineAnswer::Refused(Refusal::NoRoom);
     }
-    put_bytes(out, 0, &buf[..len]);
     LineAnswer::Line { len, taken }
 }
