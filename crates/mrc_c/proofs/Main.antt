@@ -1,28 +1,25 @@
--- What C and Rust may rely on: each exported call has exactly one answer, and leaves exactly one buffer. Each theorem cites its law.
+-- What C and Rust may rely on. The promise of each call that writes is met by exactly one answer and one buffer; that of every other is an
+-- equation, which exactly one answer meets (`an-equation-settles` of mrc_instruction).
 -- Assumes nothing.
 use mathlib.Core.Path.{_≡_, refl}
 use mathlib.Core.List.{List}
 use Prim.Native.Nat.{ℕ, _<_, _≤_}
 use lib.ListN.{length}
 use Rattle.mrc_instruction.specs.Promise.{ExactlyOne}
-use Rattle.mrc_instruction.specs.Register.{registerField, segmentField}
-use Rattle.mrc_instruction.specs.Operand.{addressingField, sizeOf}
+use Rattle.mrc_instruction.specs.Operand.{sizeOf}
 use Rattle.mrc_instruction.specs.Reading.{readAt}
 use Rattle.mrc_instruction.specs.Mrrm.{aModRM}
 use Rattle.mrc_instruction.specs.Read.{mrrmRead}
 use Rattle.mrc_instruction.specs.declared.mrrm.MrrmRead.{MrrmRead}
 use Rattle.mrc_instruction.specs.declared.operand.Operand.{Operand}
-use Rattle.mrc_instruction.proofs.Unique.{exactly-one}
 use Rattle.mrc_rules.specs.declared.Answer.{Answer}
 use Rattle.mrc_rules.specs.Answer.{taken, prefixes}
 use Rattle.mrc_rules.specs.Decode.{decodeAt}
 use Rattle.mrc_line.specs.Line.{answerOf, lineValues}
 use Rattle.mrc_line.specs.Page.{textOf, takenOf, pageOf}
 use Rattle.mrc_c.specs.Record.{recordOf, operandFields}
-use Rattle.mrc_c.specs.Fields.{registerNumber, segmentNumber, addressingNumber}
 use Rattle.mrc_c.specs.Sizes.{sizedCode, sizeNumber}
 use Rattle.mrc_c.specs.Modrm.{modrmRecord}
-use Rattle.mrc_c.specs.Step.{stepCode}
 use Rattle.mrc_c.specs.Written.{Written}
 use Rattle.mrc_c.specs.Line.{lengthOf, LineWritten}
 use Rattle.mrc_c.specs.Page.{PageWritten}
@@ -33,9 +30,6 @@ use Rattle.mrc_c.proofs.SizeKept as sizes
 pub decode : (s : List ℕ) (at budget : ℕ) (out : List ℕ) → ExactlyOne {A = ℕ × List ℕ} (λ p. Written (recordOf (decodeAt s at budget)) out (p .0) (p .1))
 decode s at budget out = settled.written-settled (recordOf (decodeAt s at budget)) out
 
-pub step : (s : List ℕ) (at budget : ℕ) → ExactlyOne (λ (r : ℕ). r ≡ stepCode (decodeAt s at budget))
-step s at budget = exactly-one (stepCode (decodeAt s at budget))
-
 pub mrrm : (s : List ℕ) (at : ℕ) (out : List ℕ)
     → ExactlyOne {A = ℕ × List ℕ} (λ p. Written (modrmRecord (mrrmRead (readAt aModRM s at))) out (p .0) (p .1))
 mrrm s at out = settled.written-settled (modrmRecord (mrrmRead (readAt aModRM s at))) out
@@ -45,17 +39,6 @@ line = settled.line-settled
 
 pub page : (image : List ℕ) (at : ℕ) (out : List ℕ) → ExactlyOne {A = ℕ × List ℕ} (λ p. PageWritten image at out (p .0) (p .1))
 page = settled.page-settled
-
-pub record-of : (d : Answer) → ExactlyOne (λ (r : List ℕ). r ≡ recordOf d)
-record-of d = exactly-one (recordOf d)
-
-pub fields : (n : ℕ)
-    → ExactlyOne (λ (r : ℕ). r ≡ registerNumber (registerField n)) × ExactlyOne (λ (r : ℕ). r ≡ segmentNumber (segmentField n))
-    × ExactlyOne (λ (r : ℕ). r ≡ addressingNumber (addressingField n))
-fields n = (exactly-one (registerNumber (registerField n)), exactly-one (segmentNumber (segmentField n)), exactly-one (addressingNumber (addressingField n)))
-
-pub operand-size : (kind size : ℕ) → ExactlyOne (λ (r : ℕ). r ≡ sizeNumber kind size)
-operand-size kind size = exactly-one (sizeNumber kind size)
 
 -- of the kind and the size that a record has of an operand it is the operand's size
 pub size-kept : (o : Operand) → sizeNumber (operandFields o .kind) (operandFields o .size) ≡ sizedCode (sizeOf o)

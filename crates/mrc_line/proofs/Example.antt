@@ -1,27 +1,13 @@
--- The example of the paper, computed.
+-- The example, computed.
 -- Assumes nothing.
 use mathlib.Core.Path.{_≡_, refl}
-use mathlib.Core.List.{List, [], _∷_, _++_, map}
-use Prim.Native.Nat.{ℕ}
-use Prim.Native.String.{String}
+use mathlib.Core.List.{_++_, map}
 use Rattle.mrc_rules.specs.Table.{rows, rowOf}
 use Rattle.mrc_instruction.specs.Reading.{aByte, aWord}
 use Rattle.mrc_line.specs.Text.{bytes}
 use Rattle.mrc_line.specs.Line.{headText, instructionText, stepText, lineText, lineTaken, lineEnd}
 use Rattle.mrc_line.specs.Page.{linesFrom, linesOf}
-
-abbrev pub image : List ℕ
-image = 0x26 ∷ 0x8B ∷ 0x47 ∷ 0xFE ∷ 0xF3 ∷ 0xA4 ∷ 0x75 ∷ 0xF8 ∷ 0x83 ∷ 0xC0 ∷ 0xFF ∷ 0x60 ∷ 0x8B ∷ []
-
-abbrev pub printed : List String
-printed =
-    "0000  26 8B 47 FE            MOV AX, WORD ES:[BX-02]"
-    ∷ "0004  F3 A4                  REPE MOVSB"
-    ∷ "0006  75 F8                  JNE 0000"
-    ∷ "0008  83 C0 FF               ADD AX, 00FF"
-    ∷ "000B  60                     DB 60"
-    ∷ "000C  8B                     DB 8B"
-    ∷ []
+use Rattle.mrc_line.specs.Example.{image, printed}
 
 pub six-lines : map (lineText image) (linesOf image) ≡ map (λ t. bytes t ++ lineEnd) printed
 unfolding linesFrom lineText lineTaken headText instructionText stepText rows rowOf aByte aWord

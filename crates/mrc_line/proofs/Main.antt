@@ -1,4 +1,4 @@
--- What is shown of the listing line. Each theorem cites its law.
+-- What is shown of the listing line. `target` promises an equation, which exactly one answer meets (`an-equation-settles` of mrc_instruction).
 -- Assumes nothing.
 use mathlib.Core.Path.{_≡_}
 use mathlib.Core.List.{List, _++_, map}
@@ -6,32 +6,28 @@ use Prim.Native.Nat.{ℕ, _*_, _<_, _≤_}
 use native.Mathlib.Nat.{le-trans}
 use lib.ListN.{length}
 use Rattle.mrc_instruction.specs.declared.errors.Refusal.{Refusal}
-use Rattle.mrc_instruction.specs.declared.operand.Displacement.{Displacement}
 use Rattle.mrc_instruction.specs.Promise.{ExactlyOne}
-use Rattle.mrc_instruction.proofs.Unique.{exactly-one}
 use Rattle.mrc_line.specs.declared.line.LineAnswer.{LineAnswer}
 use Rattle.mrc_line.specs.declared.page.Page.{Page}
 use Rattle.mrc_line.specs.Text.{bytes}
-use Rattle.mrc_line.specs.Target.{offsets, targetOf}
+use Rattle.mrc_line.specs.Target.{offsets}
 use Rattle.mrc_line.specs.Line.{lineText, lineEnd, longest, Listed}
 use Rattle.mrc_line.specs.Page.{linesOf, textOf, bytesOf, takenOf, pageOf, pagesFrom, Paged}
+use Rattle.mrc_line.specs.Example.{image, printed}
 use Rattle.mrc_line.proofs.Settled as Settled
 use Rattle.mrc_line.proofs.Lengths as Lengths
 use Rattle.mrc_line.proofs.Lines as Lines
 use Rattle.mrc_line.proofs.Pages as Pages
 use Rattle.mrc_line.proofs.Example as Example
 
--- "For each public function the promise determines the answer and the lent buffer's final bytes on all inputs, refused ones too"
+-- the promise of each call that writes is met by exactly one answer and one buffer, on all inputs
 pub line-settled : (image : List ℕ) (at : ℕ) (out : List ℕ) → ExactlyOne {A = LineAnswer × List ℕ} (λ p. Listed image at out (p .0) (p .1))
 line-settled = Settled.line-settled
 
 pub page-settled : (image : List ℕ) (at : ℕ) (out : List ℕ) → ExactlyOne {A = Page × List ℕ} (λ p. Paged image at out (p .0) (p .1))
 page-settled = Settled.page-settled
 
-pub target-settled : (start taken : ℕ) (d : Displacement) → ExactlyOne (λ (r : ℕ). r ≡ targetOf start taken d)
-target-settled start taken d = exactly-one (targetOf start taken d)
-
--- "a refused line call changes no byte of its buffer"
+-- a call that is refused leaves the buffer as it was
 pub refused-unchanged : (image : List ℕ) (at : ℕ) (out : List ℕ) (e : Refusal) (done : List ℕ) → Listed image at out (LineAnswer.Refused e) done → done ≡ out
 refused-unchanged = Settled.unchanged
 
@@ -45,7 +41,7 @@ pub page-short :
     (length (textOf image page) ≤ longest * takenOf image page) × (takenOf image page ≤ offsets)
 page-short image at room = let k = Pages.page-short image at room in (k .text, k .taken)
 
--- "Over an image, the bytes accounted for by all lines add up to its length, each byte once."
+-- the lines of an image account for all its bytes, for each once
 pub each-byte-once : (image : List ℕ) → bytesOf image (linesOf image) ≡ image
 each-byte-once = Lines.each-once
 
@@ -63,6 +59,6 @@ pub pages-joined-at :
     pagesFrom (length image) image 0 room ≡ textOf image (linesOf image)
 pages-joined-at image room h k = Pages.pages-joined image room h (λ at l. le-trans (Lengths.line-longest image at) k)
 
--- "Input 26 8B 47 FE F3 A4 75 F8 83 C0 FF 60 8B prints exactly" these six lines
-pub example : map (lineText Example.image) (linesOf Example.image) ≡ map (λ t. bytes t ++ lineEnd) Example.printed
+-- the example's lines
+pub example : map (lineText image) (linesOf image) ≡ map (λ t. bytes t ++ lineEnd) printed
 example = Example.six-lines

@@ -3,3 +3,4 @@ pub mod Target
 pub mod Operands
 pub mod Line
 pub mod Page
+pub mod Example
