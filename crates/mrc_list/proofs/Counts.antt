@@ -95,10 +95,10 @@ comes-to (more h e later) = comes-to later
 
 -- the bytes all at once, and then the end
 all-at-once : (n : ℕ) → n ≤ offsets → Reads n 0 (Image n)
-all-at-once zero h = last {there = 0} {k = 0} (record { within = omega arith; end = λ e. refl }) (sym (ended 0 0 (omega arith) refl))
+all-at-once zero h = last {there = 0} {k = 0} (record { within = omega arith; asked = omega arith; end = λ e. refl }) (sym (ended 0 0 (omega arith) refl))
 all-at-once (suc m) h =
-    more {there = 0} {k = suc m} (record { within = omega arith; end = λ e. absurd (omega arith) }) (sym (came 0 (suc m) (omega arith) (λ e. omega arith)))
-    (last {there = 0 + suc m} {k = 0} (record { within = omega arith; end = λ e. omega arith }) (ended-at (omega arith)))
+    more {there = 0} {k = suc m} (record { within = omega arith; asked = omega arith; end = λ e. absurd (omega arith) }) (sym (came 0 (suc m) (omega arith) (λ e. omega arith)))
+    (last {there = 0 + suc m} {k = 0} (record { within = omega arith; asked = omega arith; end = λ e. omega arith }) (ended-at (omega arith)))
   where
     ended-at : 0 + suc m ≡ suc m → afterRead (0 + suc m) (pos 0) ≡ Read (Image (suc m))
     ended-at e = sym (ended (0 + suc m) 0 (omega arith) refl) ∙ ap (λ (n : ℕ). Read (Image n)) e
@@ -107,5 +107,5 @@ pub read-somehow : (n : ℕ) → Reads n 0 (inputOf n)
 read-somehow n = go (ltb offsets n) refl
   where
     go : (b : Bool) → ltb offsets n ≡ b → Reads n 0 (cond b TooLong (Image n))
-    go true e = let h = ltb-true offsets n e in last {there = 0} {k = n} (record { within = omega arith; end = λ e. omega arith }) (sym (too-many 0 n (omega arith)))
+    go true e = let h = ltb-true offsets n e in last {there = 0} {k = offsets + 1} (record { within = omega arith; asked = omega arith; end = λ e. absurd (omega arith) }) (sym (too-many 0 (offsets + 1) (omega arith)))
     go false e = all-at-once n (ltb-false offsets n e)

@@ -1,7 +1,7 @@
 -- What the reads of an input come to: an image, where it has at most 65,536 bytes, however many reads they come in.
 use mathlib.Core.Path.{_≡_}
 use mathlib.Core.Bool.{cond}
-use Prim.Native.Nat.{ℕ, _+_, _≤_}
+use Prim.Native.Nat.{ℕ, _+_, _-_, _≤_}
 use lib.Dec.{ltb, eqb}
 use lib.IntN.{ℤ, pos, negsuc}
 use Rattle.mrc_line.specs.Target.{offsets}
@@ -16,6 +16,10 @@ afterRead there (pos k) =
     cond (ltb offsets (there + k)) (Reading.Read Input.TooLong)
     (cond (eqb k 0) (Reading.Read (Input.Image there)) (Reading.More (there + k)))
 
+-- how many bytes a read asks for: what an image may still have, and one more
+abbrev pub wantedOf : ℕ → ℕ
+wantedOf there = offsets + 1 - there
+
 -- what an input of n bytes is
 abbrev pub inputOf : ℕ → Input
 inputOf n = cond (ltb offsets n) Input.TooLong (Input.Image n)
@@ -26,12 +30,13 @@ Fits (Input.Image n) = n ≤ offsets
 Fits Input.TooLong = Unit {0}
 Fits Input.Failed = Unit {0}
 
--- of an input of n bytes k come where so many are there: none only where all are there
+-- of an input of n bytes k come where so many are there: no more than were asked for, and none only where all are there
 pub record Comes (n there k : ℕ) : Type 0 where
   pub within : there + k ≤ n
+  pub asked : k ≤ wantedOf there
   pub end : k ≡ 0 → there ≡ n
 
--- an input of n bytes, of which so many are there, is read to the end of the reads, one after the other, and is the input r
+-- reads, one after the other, of an input of n bytes of which so many are there, and the input r that they come to
 pub data Reads (n : ℕ) : ℕ → Input → Type 0 where
   last : {there k : ℕ} {r : Input} → Comes n there k → afterRead there (pos k) ≡ Reading.Read r → Reads n there r
   more : {there k filled : ℕ} {r : Input} → Comes n there k → afterRead there (pos k) ≡ Reading.More filled → Reads n filled r → Reads n there r

@@ -1,9 +1,7 @@
 // What the reads of an input come to.
 use mrc_line::line::OFFSETS;
 ghost use mathlib.Core.Path.{_≡_};
-ghost use Prim.Native.Nat.{_+_, _-_};
-ghost use Rattle.mrc_line.specs.Target.{offsets};
-ghost use Rattle.mrc_list.specs.Reading.{afterRead};
+ghost use Rattle.mrc_list.specs.Reading.{wantedOf, afterRead};
 
 // What the input is: an image of so many bytes, too long for one, or not to be read.
 pub enum Input {
@@ -27,7 +25,7 @@ pub fn start() -> usize
 
 // How many bytes the next read asks for where so many are there: what an image may still have, and one more, so that a byte too many is seen.
 pub fn wanted(there: usize) -> usize
-    ensures { λ r. ⌜ r ≡ offsets + 1 - there ⌝ }
+    ensures { λ r. ⌜ r ≡ wantedOf there ⌝ }
 {
     if OFFSETS < there {
         return 0;
