@@ -1,5 +1,5 @@
 -- The operands of a decode are those that specs/Operands finds by the place of their bits, and its operation is the one that specs/Operations
--- finds by the first byte and reg: of a tail, then under the prefixes of a decode.
+-- finds by the first byte and reg: of a tail, then under the prefixes of a decode, whose first repeat it has.
 -- Assumes nothing.
 use mathlib.Core.Path.{_≡_, refl, ap, subst}
 use mathlib.Core.Bool.{Bool, true, false, cond}
@@ -12,7 +12,6 @@ use lib.ListN.{length, getD, take, drop}
 use Rattle.mrc_instruction.specs.declared.errors.Refusal.{Refusal}
 use Rattle.mrc_instruction.specs.declared.instruction.OperandSet.{OperandSet}
 use Rattle.mrc_instruction.specs.declared.instruction.Instruction.{Instruction}
-use Rattle.mrc_instruction.specs.declared.instruction.Repeated.{Repeated}
 use Rattle.mrc_instruction.specs.Reading.{Outcome, got, stopped, takenBy}
 use Rattle.mrc_rules.specs.declared.Answer.{Answer}
 use Rattle.mrc_rules.specs.Forms.{Tail}
@@ -43,25 +42,28 @@ tail-placed (opcode ∷ l) = go (tail rules (opcode ∷ l)) (tail-comes opcode l
 pub record Placed (l : List ℕ) (i : Instruction) (n : ℕ) : Type 0 where
   pub operands : i .operands ≡ underFirst (first isOverride (runOf l)) (operandsOf (take n (tailOf l)))
   pub operation : operationOf (tailOf l) ≡ some (i .operation)
+  pub repeat : i .repeat ≡ repeatOf (first isRepeat (runOf l))
 
 abbrev AnswerPlaced : List ℕ → Answer → Type 0
 AnswerPlaced l (Answer.Decoded i n p) = Placed l i (n - p)
 AnswerPlaced l (Answer.Refused e n p) = Unit {0}
 
 -- under an override
-under-placed : (l : List ℕ) (o : ℕ) (r : Repeated) (i : Tail) (ops was : OperandSet) (n p : ℕ) → ops ≡ was → operationOf (tailOf l) ≡ some (i .operation)
-    → first isOverride (runOf l) ≡ some o → operandsOf (take (n - p) (tailOf l)) ≡ was → AnswerPlaced l (answer (under o r i ops) n p)
-under-placed l o r i OperandSet.None was n p e q f h = tt
-under-placed l o r i (OperandSet.Destination d) was n p e q f h = record { operands = rw (f, h) (ap (inSegments (overrideSegment o)) e); operation = q }
-under-placed l o r i (OperandSet.DestinationAndSource d s) was n p e q f h =
-    record { operands = rw (f, h) (ap (inSegments (overrideSegment o)) e); operation = q }
+under-placed : (l : List ℕ) (o : ℕ) (i : Tail) (ops was : OperandSet) (n p : ℕ) → ops ≡ was → operationOf (tailOf l) ≡ some (i .operation)
+    → first isOverride (runOf l) ≡ some o → operandsOf (take (n - p) (tailOf l)) ≡ was
+    → AnswerPlaced l (answer (under o (repeatOf (first isRepeat (runOf l))) i ops) n p)
+under-placed l o i OperandSet.None was n p e q f h = tt
+under-placed l o i (OperandSet.Destination d) was n p e q f h =
+    record { operands = rw (f, h) (ap (inSegments (overrideSegment o)) e); operation = q; repeat = refl }
+under-placed l o i (OperandSet.DestinationAndSource d s) was n p e q f h =
+    record { operands = rw (f, h) (ap (inSegments (overrideSegment o)) e); operation = q; repeat = refl }
 
-result-placed : (l : List ℕ) (o r : Option ℕ) (t : Outcome Tail) (n p : ℕ) → n - p ≡ takenBy t → first isOverride (runOf l) ≡ o → TailPlaced (tailOf l) t
-    → AnswerPlaced l (answer (resultOf rules o r t) n p)
-result-placed l none r (got i k) n p c f h = record { operands = rw (f, c) (h .operands); operation = h .operation }
-result-placed l none r (stopped e k) n p c f h = tt
-result-placed l (some o) r (got i k) n p c f h = under-placed l o (repeatOf r) i (i .operands) _ n p (h .operands) (h .operation) f (rw c refl)
-result-placed l (some o) r (stopped e k) n p c f h = tt
+result-placed : (l : List ℕ) (o : Option ℕ) (t : Outcome Tail) (n p : ℕ) → n - p ≡ takenBy t → first isOverride (runOf l) ≡ o → TailPlaced (tailOf l) t
+    → AnswerPlaced l (answer (resultOf rules o (first isRepeat (runOf l)) t) n p)
+result-placed l none (got i k) n p c f h = record { operands = rw (f, c) (h .operands); operation = h .operation; repeat = refl }
+result-placed l none (stopped e k) n p c f h = tt
+result-placed l (some o) (got i k) n p c f h = under-placed l o i (i .operands) _ n p (h .operands) (h .operation) f (rw c refl)
+result-placed l (some o) (stopped e k) n p c f h = tt
 
 decode-placed : (b : ℕ) (l : List ℕ) → AnswerPlaced l (decodeBy rules b l)
 decode-placed b l = go (leb (length (runOf l)) b)
@@ -69,7 +71,7 @@ decode-placed b l = go (leb (length (runOf l)) b)
     go : (t : Bool)
         → AnswerPlaced l (cond t (together rules (runOf l) (tail rules (tailOf l))) (Answer.Refused (Refusal.TooManyPrefixes (getD (runOf l) b 0)) (b + 1) (b + 1)))
     go true =
-        result-placed l (first isOverride (runOf l)) (first isRepeat (runOf l)) (tail rules (tailOf l)) (length (runOf l) + takenBy (tail rules (tailOf l))) (length (runOf l))
+        result-placed l (first isOverride (runOf l)) (tail rules (tailOf l)) (length (runOf l) + takenBy (tail rules (tailOf l))) (length (runOf l))
         (omega arith)
         refl
         (tail-placed (tailOf l))
@@ -89,3 +91,7 @@ destination-and-source s at b i n p e = subst (AnswerPlaced (drop at s)) e (at-p
 pub operation-named : (s : List ℕ) (at b : ℕ) (i : Instruction) (n p : ℕ) → decodeAt s at b ≡ Answer.Decoded i n p
     → operationOf (tailOf (drop at s)) ≡ some (i .operation)
 operation-named s at b i n p e = subst (AnswerPlaced (drop at s)) e (at-placed s at b) .operation
+
+pub first-repeat : (s : List ℕ) (at b : ℕ) (i : Instruction) (n p : ℕ) → decodeAt s at b ≡ Answer.Decoded i n p
+    → i .repeat ≡ repeatOf (first isRepeat (runOf (drop at s)))
+first-repeat s at b i n p e = subst (AnswerPlaced (drop at s)) e (at-placed s at b) .repeat

@@ -12,6 +12,7 @@ use Rattle.mrc_instruction.specs.declared.operand.Operand.{Operand}
 use Rattle.mrc_instruction.specs.declared.instruction.OperandSet.{OperandSet}
 use Rattle.mrc_instruction.specs.declared.instruction.Repeat.{Repeat}
 use Rattle.mrc_instruction.specs.declared.instruction.Repeated.{Repeated}
+use Rattle.mrc_instruction.specs.declared.instruction.Instruction.{Instruction}
 use Rattle.mrc_instruction.specs.declared.operation.Operation.the-variants.{ADD, IN, JE, JMP, JNE, LES, MOV, MOVSB, OR, OUT, TEST, XCHG}
 use Rattle.mrc_instruction.specs.declared.errors.Refusal.the-variants.{EndOfInput, CouldNotReadExtraBytes, InvalidModRegRMEncoding, InvalidOpCode, InvalidSegmentEncoding, InvalidPrefix, TooManyPrefixes}
 use Rattle.mrc_rules.specs.declared.Answer.{Answer}
@@ -52,6 +53,14 @@ cases =
 abbrev pub movAxFrom : Operand → ℕ → ℕ → Answer
 movAxFrom memory = Decoded (two MOV (register AlAx Word) memory)
 
+-- REPE MOV AX, ES:[BX]
+abbrev pub repeatedMov : Instruction
+repeatedMov = record {
+  repeat = Repeated.Some Repeat.Equal;
+  operation = MOV;
+  operands = OperandSet.DestinationAndSource (register AlAx Word) (Operand.Indirect ES Word Bx Displacement.None);
+}
+
 -- inputs that a reading may get wrong and still look right
 abbrev pub easilyMistaken : List Case
 easilyMistaken =
@@ -77,6 +86,9 @@ easilyMistaken =
     ∷ case 15 (0x26 ∷ 0xA1 ∷ 0x34 ∷ 0x12 ∷ []) (movAxFrom (Operand.Direct ES Word 0x1234) 4 1)
     ∷ case 15 (0x2E ∷ 0x01 ∷ 0x07 ∷ []) (Decoded (two ADD (Operand.Indirect CS Word Bx Displacement.None) (register AlAx Word)) 3 1)
     ∷ case 15 (0x36 ∷ 0x89 ∷ 0xD8 ∷ []) (Decoded (two MOV (register AlAx Word) (register BlBx Word)) 3 1)
+    -- a repeat stays under an override, before it and behind it
+    ∷ case 15 (0xF3 ∷ 0x26 ∷ 0x8B ∷ 0x07 ∷ []) (Decoded repeatedMov 4 2)
+    ∷ case 15 (0x26 ∷ 0xF3 ∷ 0xF2 ∷ 0x8B ∷ 0x07 ∷ []) (Decoded repeatedMov 5 3)
     -- a missing ModRM byte is not the end of the input
     ∷ case 15 (0x8B ∷ []) (Refused CouldNotReadExtraBytes 1 0)
     ∷ case 15 (0xF3 ∷ 0x80 ∷ []) (Refused CouldNotReadExtraBytes 2 1)

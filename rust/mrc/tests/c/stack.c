@@ -1,14 +1,16 @@
-/* Makes each call that decodes on a stack of just the size that include/mrc.h states, above a page that faults. Prints how
- * much of it the call reached. */
+/* Makes each call that decodes on a stack of just the size that include/mrc.h states, above a page that faults, and then in
+ * a thread that has as much besides what a thread takes for itself. Prints how much of the stack the call reached. */
 #define _DEFAULT_SOURCE
 #define _XOPEN_SOURCE 700
 #include "mrc.h"
 
+#include <pthread.h>
 #include <stdio.h>
 #include <stdlib.h>
 #include <string.h>
 #include <sys/mman.h>
 #include <ucontext.h>
+#include <unistd.h>
 
 enum { GUARD = 4096, PAINT = 0xA5, USUAL = 15, LARGEST = 255, LONGEST_RUN = LARGEST + 1 };
 
@@ -65,6 +67,30 @@ static size_t reached(void (*call)(void), size_t size)
     return size - untouched;
 }
 
+static void (*called)(void);
+
+static void *thread(void *unused)
+{
+    called();
+    return unused;
+}
+
+/* The call in a thread with a stack of that size, and of the least that a thread may have. */
+static void in_a_thread(void (*call)(void), size_t size)
+{
+    size_t whole = size + (size_t)sysconf(_SC_THREAD_STACK_MIN);
+    uint8_t *stack = stack_above_a_guard(whole);
+    pthread_attr_t attributes;
+    pthread_t id;
+    called = call;
+    if (pthread_attr_init(&attributes) != 0 || pthread_attr_setstack(&attributes, stack, whole) != 0
+        || pthread_create(&id, &attributes, thread, NULL) != 0 || pthread_join(id, NULL) != 0) {
+        puts("no thread");
+        exit(1);
+    }
+    munmap(stack - GUARD, GUARD + whole);
+}
+
 static void run(const char *what, void (*call)(void), uint8_t with_budget, size_t size)
 {
     size_t most = 0;
@@ -73,6 +99,7 @@ static void run(const char *what, void (*call)(void), uint8_t with_budget, size_
         fill(prefixes);
         size_t now = reached(call, size);
         most = now > most ? now : most;
+        in_a_thread(call, size);
     }
     printf("%s, budget %d: %zu of %zu bytes\n", what, with_budget, most, size);
 }
