@@ -7,7 +7,7 @@ use Prim.Native.Nat.{ℕ, _<_, _≤_}
 use lib.ListN.{length}
 use Rattle.mrc_instruction.specs.Promise.{ExactlyOne}
 use Rattle.mrc_instruction.specs.Operand.{sizeOf}
-use Rattle.mrc_instruction.specs.Reading.{readAt}
+use Rattle.mrc_instruction.specs.Reader.{readAt}
 use Rattle.mrc_instruction.specs.Mrrm.{aModRM}
 use Rattle.mrc_instruction.specs.Read.{mrrmRead}
 use Rattle.mrc_instruction.specs.declared.mrrm.MrrmRead.{MrrmRead}

@@ -10,7 +10,7 @@ use Rattle.mrc_instruction.specs.declared.operand.Displacement.{Displacement}
 use Rattle.mrc_instruction.specs.declared.operand.Immediate.{Immediate}
 use Rattle.mrc_instruction.specs.declared.operand.Operand.{Operand}
 use Rattle.mrc_instruction.specs.Operand.{sizeOf}
-use Rattle.mrc_instruction.proofs.Past.{ends}
+use Rattle.mrc_instruction.proofs.LastArm.{ends}
 use Rattle.mrc_c.specs.Codes.{sizeCode}
 use Rattle.mrc_c.specs.Record.{operandFields}
 use Rattle.mrc_c.specs.Sizes.{sizedCode, ownSize, sizesBy, sizeNumber}

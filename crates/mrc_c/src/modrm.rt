@@ -10,7 +10,7 @@ use mrc_instruction::mrrm::read_mrrm;
 use mrc_instruction::operand::Displacement;
 use mrc_line::target::target;
 ghost use mathlib.Core.Path.{_≡_};
-ghost use Rattle.mrc_instruction.specs.Reading.{readAt};
+ghost use Rattle.mrc_instruction.specs.Reader.{readAt};
 ghost use Rattle.mrc_instruction.specs.Mrrm.{aModRM};
 ghost use Rattle.mrc_instruction.specs.Read.{mrrmRead};
 ghost use Rattle.mrc_c.specs.Modrm.{placeFields, modrmRecord};

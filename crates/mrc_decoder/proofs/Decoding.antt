@@ -15,15 +15,15 @@ use Rattle.mrc_instruction.specs.declared.operand.OperandSize.{OperandSize}
 use Rattle.mrc_rules.specs.declared.Answer.{Answer}
 use Rattle.mrc_decoder.specs.declared.form.OpcodeAlone.{OpcodeAlone}
 use Rattle.mrc_decoder.specs.declared.form.WithModRM.{WithModRM}
-use Rattle.mrc_decoder.specs.Form.{Agrees, Meaning, overrides, repeats, reads, nothing, meaningOf, aloneRow, modRMMeant, modRMReading}
-use Rattle.mrc_instruction.specs.Reading.{readFrom}
+use Rattle.mrc_decoder.specs.Form.{Agrees, Meaning, overrides, repeats, reads, nothing, meaningOf, aloneRow, modRMMeant, modRMReader}
+use Rattle.mrc_instruction.specs.Reader.{readFrom}
 use Rattle.mrc_instruction.proofs.Rest.{here, none}
 use Rattle.mrc_rules.specs.Forms.{Row}
 use Rattle.mrc_rules.specs.Table.{rowOf}
 use Rattle.mrc_rules.specs.Prefixes.{isOverride, isRepeat, isPrefix, repeatOf}
 use Rattle.mrc_rules.specs.Decode.{decodeBy, decodeAt, rules}
-use Rattle.mrc_forms.specs.Behind.{behind, readBy}
-use Rattle.mrc_decoder.specs.Wrap.{Small, underOverride, withRepeat, tooMany, pastEnd}
+use Rattle.mrc_forms.specs.Answers.{behind, readBy}
+use Rattle.mrc_decoder.specs.Prefixes.{Small, underOverride, withRepeat, tooMany, pastEnd}
 use Rattle.mrc_decoder.proofs.ModRM.{modrm-agrees}
 use Rattle.mrc_decoder.proofs.Steps.{step-end, step-tail, step-over, override-prefix, repeat-prefix}
 use Rattle.mrc_decoder.proofs.Wrapping.{override-wraps, repeat-wraps}
@@ -59,7 +59,7 @@ at-end s at n h = sym (inside s at n (omega arith) ∙ ap (decodeBy rules n) (no
 
 -- a form that is its opcode alone reads nothing, wherever that stands
 pub alone-anywhere : (form : OpcodeAlone) (byte : ℕ) (l : List ℕ) → readBy byte (aloneRow form byte) [] ≡ readBy byte (aloneRow form byte) l
-alone-anywhere (OpcodeAlone.NoOperand op) byte l = refl
+alone-anywhere (OpcodeAlone.Bare op) byte l = refl
 alone-anywhere (OpcodeAlone.OnSegment op) byte l = refl
 alone-anywhere OpcodeAlone.Exchange byte l = refl
 alone-anywhere OpcodeAlone.InDx byte l = refl
@@ -85,10 +85,10 @@ module _ (s : List ℕ) (at n : ℕ) (h : at < length s) where
 
   -- a form with a ModRM
   pub no-prefix-modrm : (form : WithModRM) (size : OperandSize) {d : Answer} → modRMMeant form size (getD s at 0) ≡ meaningOf (getD s at 0)
-      → d ≡ behind (readFrom (modRMReading form size (getD s at 0)) (drop (at + 1) s)) → d ≡ decodeAt s at n
+      → d ≡ behind (readFrom (modRMReader form size (getD s at 0)) (drop (at + 1) s)) → d ≡ decodeAt s at n
   no-prefix-modrm form size {d} e f = go (modRMMeant form size (getD s at 0)) e (modrm-agrees form size (getD s at 0))
     where
-      go : (m : Meaning) → m ≡ meaningOf (getD s at 0) → Agrees (getD s at 0) m (modRMReading form size (getD s at 0)) → d ≡ decodeAt s at n
+      go : (m : Meaning) → m ≡ meaningOf (getD s at 0) → Agrees (getD s at 0) m (modRMReader form size (getD s at 0)) → d ≡ decodeAt s at n
       go overrides e a = absurd a
       go repeats e a = absurd a
       go (reads row) e a = no-prefix e (f ∙ ap behind (sym (a (drop (at + 1) s))))

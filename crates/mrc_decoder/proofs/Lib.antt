@@ -3,5 +3,5 @@ pub mod ModRM
 pub mod Steps
 pub mod Wrapping
 pub mod Decoding
-pub mod Whole
+pub mod TableRule
 pub mod Main

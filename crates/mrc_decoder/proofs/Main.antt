@@ -12,7 +12,7 @@ use Rattle.mrc_rules.specs.Prefixes.{runOf}
 use Rattle.mrc_rules.specs.Decode.{decodeAt}
 use Rattle.mrc_rules.proofs.Counting.{prefix-count}
 use Rattle.mrc_decoder.specs.declared.form.WithModRM.{WithModRM}
-use Rattle.mrc_decoder.specs.Form.{Agrees, modRMMeant, modRMReading}
+use Rattle.mrc_decoder.specs.Form.{Agrees, modRMMeant, modRMReader}
 use Rattle.mrc_decoder.proofs.ModRM.{modrm-agrees}
 
 -- the prefixes of every answer are the leading prefix bytes, up to one more than the budget
@@ -21,5 +21,5 @@ pub prefixes-settled : (s : List ℕ) (at budget : ℕ) (r : Answer) → r ≡ d
 prefixes-settled s at budget r e = ap prefixes e ∙ prefix-count s at budget
 
 -- what the decoder reads of a form with a ModRM, by the operand and the byte alone, is what the row reads that the form means
-pub modrm-by-rows : (form : WithModRM) (size : OperandSize) (opcode : ℕ) → Agrees opcode (modRMMeant form size opcode) (modRMReading form size opcode)
+pub modrm-by-rows : (form : WithModRM) (size : OperandSize) (opcode : ℕ) → Agrees opcode (modRMMeant form size opcode) (modRMReader form size opcode)
 modrm-by-rows = modrm-agrees

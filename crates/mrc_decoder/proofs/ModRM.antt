@@ -19,25 +19,25 @@ use Rattle.mrc_instruction.specs.declared.register.RegisterEncoding.{RegisterEn
 use Rattle.mrc_instruction.specs.declared.mrrm.RegisterOrMemory.{RegisterOrMemory}
 use Rattle.mrc_instruction.specs.declared.mrrm.OperandRead.{OperandRead}
 use Rattle.mrc_instruction.specs.Register.{registerOf, segmentOf}
-use Rattle.mrc_instruction.specs.Reading.{Reading, done, refuse, Outcome, got, stopped, more, readFrom, _>>=_, aByte}
+use Rattle.mrc_instruction.specs.Reader.{Reader, done, refuse, Outcome, got, stopped, more, readFrom, _>>=_, aByte}
 use Rattle.mrc_instruction.specs.Mrrm.{ModRM, registerOrMemory, modRM, aModRM}
 use Rattle.mrc_instruction.specs.Read.{operandRead}
-use Rattle.mrc_instruction.proofs.Then.{after, through, then, then-at, stop-at}
+use Rattle.mrc_instruction.proofs.Sequence.{after, through, then, then-at, stop-at}
 use Rattle.mrc_rules.specs.declared.Answer.{Answer}
-use Rattle.mrc_rules.specs.Forms.{Tail, rest, two, register, anImmediate, arithmetic, shift, rm, rmReg, regRm, rmSegment, segmentRm, groupImmediate, moveImmediate, shiftOne, shiftCl}
+use Rattle.mrc_rules.specs.Forms.{Tail, rest, two, register, anImmediate, arithmetic, shift, rm, rmReg, regRm, rmSegment, segmentRm, group80, groupC6, shiftByOne, shiftByCl}
 use Rattle.mrc_forms.specs.declared.answers.FormRead.{FormRead}
-use Rattle.mrc_forms.specs.Behind.{behind, formRead, popBehind}
-use Rattle.mrc_pairs.specs.declared.common.Direction.{Direction}
-use Rattle.mrc_pairs.specs.Common.{dBit, regFirst, registerBehind, segmentBehind}
+use Rattle.mrc_forms.specs.Answers.{behind, formRead, popBehind}
+use Rattle.mrc_directed.specs.declared.common.Direction.{Direction}
+use Rattle.mrc_directed.specs.Common.{dBit, regFirst, registerBehind, segmentBehind}
 use Rattle.mrc_decoder.specs.declared.form.WithModRM.{WithModRM}
-use Rattle.mrc_decoder.specs.Form.{Agrees, modRMMeant, modRMReading}
+use Rattle.mrc_decoder.specs.Form.{Agrees, modRMMeant, modRMReader}
 
--- two readings that agree behind every ModRM that is read; its register is what reg names
-module _ (f g : ModRM → Reading Tail) (h : (b : ℕ) (x : RegisterOrMemory) → f (modRM b x) ≡ g (modRM b x)) where
+-- two readers that agree behind every ModRM that is read; its register is what reg names
+module _ (f g : ModRM → Reader Tail) (h : (b : ℕ) (x : RegisterOrMemory) → f (modRM b x) ≡ g (modRM b x)) where
   same : (b : ℕ) (l : List ℕ) (o : Outcome RegisterOrMemory)
       → through (λ a n. readFrom (f a) (drop n l)) (through (λ x n. readFrom (done (modRM b x)) (drop n l)) o)
       ≡ through (λ a n. readFrom (g a) (drop n l)) (through (λ x n. readFrom (done (modRM b x)) (drop n l)) o)
-  same b l (got x n) = ap (λ (r : Reading Tail). after (n + 0) (readFrom r (drop (n + 0) l))) (h b x)
+  same b l (got x n) = ap (λ (r : Reader Tail). after (n + 0) (readFrom r (drop (n + 0) l))) (h b x)
   same b l (stopped e n) = refl
 
   behind-byte : (b : ℕ) (l : List ℕ)
@@ -56,11 +56,11 @@ module _ (f g : ModRM → Reading Tail) (h : (b : ℕ) (x : RegisterOrMemory) �
   by-reg [] = refl
   by-reg (b ∷ l) = ap more (behind-byte b l)
 
-pub modrm-agrees : (form : WithModRM) (size : OperandSize) (opcode : ℕ) → Agrees opcode (modRMMeant form size opcode) (modRMReading form size opcode)
+pub modrm-agrees : (form : WithModRM) (size : OperandSize) (opcode : ℕ) → Agrees opcode (modRMMeant form size opcode) (modRMReader form size opcode)
 modrm-agrees WithModRM.Pop Word opcode = λ l. refl
 modrm-agrees WithModRM.Pop Byte opcode = tt
-modrm-agrees WithModRM.Increment size opcode = λ l. refl
-modrm-agrees WithModRM.Unary size opcode = λ l. refl
+modrm-agrees WithModRM.GroupFE size opcode = λ l. refl
+modrm-agrees WithModRM.GroupF6 size opcode = λ l. refl
 modrm-agrees (WithModRM.RegisterOrMemoryAndRegister op direction) size opcode = go (regFirst direction opcode)
   where
     go : (t : Bool) (l : List ℕ)
@@ -85,19 +85,19 @@ modrm-agrees WithModRM.RegisterOrMemoryAndSegment Byte opcode = tt
 modrm-agrees (WithModRM.ImmediateToRegisterOrMemory group) size opcode = go (eqb group 0x80)
   where
     go : (t : Bool) (l : List ℕ)
-        → readFrom (rest opcode (cond t (groupImmediate size) (moveImmediate size))) l
+        → readFrom (rest opcode (cond t (group80 size) (groupC6 size))) l
         ≡ readFrom
         (aModRM >>= λ m. anImmediate size >>= λ i. done (two (cond t (arithmetic (m .byte / 8 % 8)) MOV) (rm m size) (Operand.Immediate i)))
         l
     go true l = refl
     go false l = refl
-modrm-agrees WithModRM.ByteToRegisterOrMemory Word opcode = λ l. refl
-modrm-agrees WithModRM.ByteToRegisterOrMemory Byte opcode = tt
+modrm-agrees WithModRM.Group83 Word opcode = λ l. refl
+modrm-agrees WithModRM.Group83 Byte opcode = tt
 modrm-agrees WithModRM.ShiftByImmediate size opcode = λ l. refl
 modrm-agrees WithModRM.ShiftByCount size opcode = go (dBit opcode)
   where
     go : (t : Bool) (l : List ℕ)
-        → readFrom (rest opcode (cond t (shiftCl size) (shiftOne size))) l
+        → readFrom (rest opcode (cond t (shiftByCl size) (shiftByOne size))) l
         ≡ readFrom
         (aModRM >>= λ m. done (two (shift (m .byte / 8 % 8)) (rm m size) (cond t (register RegisterEncoding.ClCx size) (Operand.Immediate (Immediate.Byte 1)))))
         l
@@ -114,7 +114,7 @@ form-after at n (stopped e k) =
     rw count
 
 -- the ModRM at a position is read, and then what K reads behind it; or it is not
-module _ (size : OperandSize) (s : List ℕ) (at : ℕ) (K : Operand → ℕ → Reading Tail) where
+module _ (size : OperandSize) (s : List ℕ) (at : ℕ) (K : Operand → ℕ → Reader Tail) where
   pub then-behind : {operand : Operand} {next byte : ℕ} {r : FormRead} → OperandRead.Got operand next byte ≡ operandRead size at (readFrom aModRM (drop at s))
       → r ≡ formRead next (readFrom (K operand byte) (drop next s)) → r ≡ formRead at (readFrom (aModRM >>= λ m. K (rm m size) (m .byte)) (drop at s))
   then-behind {operand} {next} {byte} {r} = go (readFrom aModRM (drop at s)) refl

@@ -14,20 +14,20 @@ use Rattle.mrc_instruction.specs.declared.instruction.Repeated.{Repeated}
 use Rattle.mrc_instruction.specs.declared.instruction.Instruction.{Instruction}
 use Rattle.mrc_instruction.specs.declared.errors.Refusal.{Refusal}
 use Rattle.mrc_rules.specs.declared.Answer.{Answer}
-use Rattle.mrc_instruction.specs.Reading.{Reading, done, refuse, next, _>>=_, Outcome, got, stopped, takenBy, more, readFrom}
+use Rattle.mrc_instruction.specs.Reader.{Reader, done, refuse, next, _>>=_, Outcome, got, stopped, takenBy, more, readFrom}
 use Rattle.mrc_rules.specs.Forms.{Tail}
 use Rattle.mrc_rules.specs.Prefixes.{isOverride, isRepeat, isPrefix, runOf, tailOf, first, repeatOf, Result, reads, refuses, made}
 use Rattle.mrc_rules.specs.Decode.{Rules, answer, tail, resultOf, together, decodeBy}
-use Rattle.mrc_forms.specs.Behind.{alone}
-use Rattle.mrc_decoder.specs.Wrap.{refusalUnder, resultUnder, resultRepeated, wrapped, underOverrideBy, withRepeat, tooMany}
+use Rattle.mrc_forms.specs.Answers.{alone}
+use Rattle.mrc_decoder.specs.Prefixes.{refusalUnder, resultUnder, resultRepeated, wrapped, underOverrideBy, withRepeat, tooMany}
 use Rattle.mrc_rules.proofs.Strike.{override-no-repeat, repeat-no-override}
 
 -- a refusal that an override turns into its own: every one but TooManyPrefixes
 abbrev pub Turned : Refusal → Type 0
 Turned e = (o : ℕ) → refusalUnder o e ≡ Refusal.InvalidPrefix o
 
--- a reading that refuses with no other, and ends in what is such
-abbrev pub Plain : {A : Type 0} → (A → Type 0) → Reading A → Type 0
+-- a reader that refuses with no other, and ends in what is such
+abbrev pub Plain : {A : Type 0} → (A → Type 0) → Reader A → Type 0
 Plain P (done a) = P a
 Plain P (refuse e) = Turned e
 Plain P (next k) = (b : ℕ) → Plain P (k b)
@@ -44,17 +44,17 @@ module _ {A : Type 0} (P : A → Type 0) where
   stops-more (got a n) h = h
   stops-more (stopped e n) h = h
 
-  pub plain-stops : (m : Reading A) (l : List ℕ) → Plain P m → Stops (readFrom m l)
+  pub plain-stops : (m : Reader A) (l : List ℕ) → Plain P m → Stops (readFrom m l)
   plain-stops (done a) l h = h
   plain-stops (refuse e) l h = h
   plain-stops (next k) [] h = λ o. refl
   plain-stops (next k) (b ∷ l) h = stops-more (readFrom (k b) l) (plain-stops (k b) l (h b))
 
-  pub plain-cond : (t : Bool) (x y : Reading A) → Plain P x → Plain P y → Plain P (cond t x y)
+  pub plain-cond : (t : Bool) (x y : Reader A) → Plain P x → Plain P y → Plain P (cond t x y)
   plain-cond true x y h k = h
   plain-cond false x y h k = k
 
-  pub plain-bind : {B : Type 0} (m : Reading B) (f : B → Reading A) → Plain Any m → ((x : B) → Plain P (f x)) → Plain P (m >>= f)
+  pub plain-bind : {B : Type 0} (m : Reader B) (f : B → Reader A) → Plain Any m → ((x : B) → Plain P (f x)) → Plain P (m >>= f)
   plain-bind (done a) f h k = k a
   plain-bind (refuse e) f h k = h
   plain-bind (next g) f h k = λ b. plain-bind (g b) f (h b) k

@@ -13,13 +13,13 @@ use Rattle.mrc_instruction.specs.declared.operand.Immediate.{Immediate}
 use Rattle.mrc_instruction.specs.declared.operand.Operand.{Operand}
 use Rattle.mrc_instruction.specs.declared.instruction.OperandSet.{OperandSet}
 use Rattle.mrc_instruction.specs.declared.instruction.Repeated.{Repeated}
-use Rattle.mrc_instruction.specs.Reading.{Reading, _>>=_, aByte, aWord}
+use Rattle.mrc_instruction.specs.Reader.{Reader, _>>=_, aByte, aWord}
 use Rattle.mrc_instruction.specs.Mrrm.{ModRM, regField, registerOrMemory, aModRM}
-use Rattle.mrc_rules.specs.Forms.{Tail, Row, bare, prefix, invalid, rmReg, regRm, accImmediate, onSegment, onRegister, jump, groupImmediate, groupByteToWord, popRm, rmSegment, segmentRm, exchange, far, accDirect, directAcc, registerImmediate, shiftImmediate, shiftOne, shiftCl, onImmediate, moveImmediate, escape, inPort, outPort, inDx, outDx, unary, incDec, rest, unaryBy, rm, anImmediate, aDisplacement}
+use Rattle.mrc_rules.specs.Forms.{Tail, Row, bare, prefix, invalid, rmReg, regRm, immediateToAccumulator, onSegment, onRegister, onDisplacement, group80, group83, pop, rmSegment, segmentRm, exchange, far, accDirect, directAcc, registerAndImmediate, shiftByImmediate, shiftByOne, shiftByCl, onImmediate, groupC6, escape, inPort, outPort, inDx, outDx, groupF6, groupFE, rest, groupF6By, rm, anImmediate, aDisplacement}
 use Rattle.mrc_rules.specs.Table.{rowOf}
 use Rattle.mrc_rules.specs.Prefixes.{isOverride, overrideSegment, isRepeat, repeatOf, inSegment, made, under, reads}
 use Rattle.mrc_rules.specs.Decode.{decodeBy, rules}
-use Rattle.mrc_decoder.specs.Wrap.{resultUnder, resultRepeated, overridden, underOverride, withRepeat}
+use Rattle.mrc_decoder.specs.Prefixes.{resultUnder, resultRepeated, overridden, underOverride, withRepeat}
 use Rattle.mrc_decoder.proofs.Steps.{Plain, Any, plain-cond, plain-bind, Wraps, step-override, step-repeat}
 
 -- no form is refused with TooManyPrefixes
@@ -30,7 +30,7 @@ rm-plain (suc zero) low = λ b. tt
 rm-plain (suc (suc zero)) low = λ b c. tt
 rm-plain (suc (suc (suc n))) low = tt
 
-modrm-then : (f : ModRM → Reading Tail) → ((m : ModRM) → Plain Any (f m)) → Plain Any (aModRM >>= f)
+modrm-then : (f : ModRM → Reader Tail) → ((m : ModRM) → Plain Any (f m)) → Plain Any (aModRM >>= f)
 unfolding aByte aWord
 modrm-then f h = plain-bind Any aModRM f (λ b. plain-bind Any (registerOrMemory (b / 64) (b % 8)) _ (rm-plain (b / 64) (b % 8)) (λ x. tt)) h
 
@@ -44,13 +44,13 @@ unfolding aByte aWord
 displacement-plain Byte = λ b. tt
 displacement-plain Word = λ b c. tt
 
-immediate-then : (size : OperandSize) (f : Immediate → Reading Tail) → ((i : Immediate) → Plain Any (f i)) → Plain Any (anImmediate size >>= f)
+immediate-then : (size : OperandSize) (f : Immediate → Reader Tail) → ((i : Immediate) → Plain Any (f i)) → Plain Any (anImmediate size >>= f)
 immediate-then size f h = plain-bind Any (anImmediate size) f (immediate-plain size) h
 
-unary-plain : (n : ℕ) (d : Operand) (size : OperandSize) → Plain Any (unaryBy n d size)
-unary-plain zero d size = immediate-then size _ (λ i. tt)
-unary-plain (suc zero) d size = λ o. refl
-unary-plain (suc (suc n)) d size = tt
+group-f6-plain : (n : ℕ) (d : Operand) (size : OperandSize) → Plain Any (groupF6By n d size)
+group-f6-plain zero d size = immediate-then size _ (λ i. tt)
+group-f6-plain (suc zero) d size = λ o. refl
+group-f6-plain (suc (suc n)) d size = tt
 
 pub rest-plain : (opcode : ℕ) (r : Row) → Plain Any (rest opcode r)
 unfolding aByte aWord
@@ -59,32 +59,32 @@ rest-plain opcode prefix = λ o. refl
 rest-plain opcode invalid = λ o. refl
 rest-plain opcode (rmReg op size) = modrm-then _ (λ m. tt)
 rest-plain opcode (regRm op size) = modrm-then _ (λ m. tt)
-rest-plain opcode (accImmediate op size) = immediate-then size _ (λ i. tt)
+rest-plain opcode (immediateToAccumulator op size) = immediate-then size _ (λ i. tt)
 rest-plain opcode (onSegment op s) = tt
 rest-plain opcode (onRegister op r) = tt
-rest-plain opcode (jump op size) = plain-bind Any (aDisplacement size) _ (displacement-plain size) (λ d. tt)
-rest-plain opcode (groupImmediate size) = modrm-then _ (λ m. immediate-then size _ (λ i. tt))
-rest-plain opcode groupByteToWord = modrm-then _ (λ m b. tt)
-rest-plain opcode popRm = modrm-then _ (λ m. plain-cond Any (eqb (regField m) 0) _ _ tt (λ o. refl))
+rest-plain opcode (onDisplacement op size) = plain-bind Any (aDisplacement size) _ (displacement-plain size) (λ d. tt)
+rest-plain opcode (group80 size) = modrm-then _ (λ m. immediate-then size _ (λ i. tt))
+rest-plain opcode group83 = modrm-then _ (λ m b. tt)
+rest-plain opcode pop = modrm-then _ (λ m. plain-cond Any (eqb (regField m) 0) _ _ tt (λ o. refl))
 rest-plain opcode rmSegment = modrm-then _ (λ m. plain-cond Any (ltb (regField m) 4) _ _ tt (λ o. refl))
 rest-plain opcode segmentRm = modrm-then _ (λ m. plain-cond Any (ltb (regField m) 4) _ _ tt (λ o. refl))
 rest-plain opcode (exchange r) = tt
 rest-plain opcode (far op) = λ a b c d. tt
 rest-plain opcode (accDirect size) = λ a b. tt
 rest-plain opcode (directAcc size) = λ a b. tt
-rest-plain opcode (registerImmediate r size) = immediate-then size _ (λ i. tt)
-rest-plain opcode (shiftImmediate size) = modrm-then _ (λ m b. tt)
-rest-plain opcode (shiftOne size) = modrm-then _ (λ m. tt)
-rest-plain opcode (shiftCl size) = modrm-then _ (λ m. tt)
+rest-plain opcode (registerAndImmediate r size) = immediate-then size _ (λ i. tt)
+rest-plain opcode (shiftByImmediate size) = modrm-then _ (λ m b. tt)
+rest-plain opcode (shiftByOne size) = modrm-then _ (λ m. tt)
+rest-plain opcode (shiftByCl size) = modrm-then _ (λ m. tt)
 rest-plain opcode (onImmediate op size) = immediate-then size _ (λ i. tt)
-rest-plain opcode (moveImmediate size) = modrm-then _ (λ m. immediate-then size _ (λ i. tt))
+rest-plain opcode (groupC6 size) = modrm-then _ (λ m. immediate-then size _ (λ i. tt))
 rest-plain opcode escape = λ b. tt
 rest-plain opcode (inPort size) = λ b. tt
 rest-plain opcode (outPort size) = λ b. tt
 rest-plain opcode (inDx size) = tt
 rest-plain opcode (outDx size) = tt
-rest-plain opcode (unary size) = modrm-then _ (λ m. unary-plain (regField m) (rm m size) size)
-rest-plain opcode (incDec size) = modrm-then _ (λ m. tt)
+rest-plain opcode (groupF6 size) = modrm-then _ (λ m. group-f6-plain (regField m) (rm m size) size)
+rest-plain opcode (groupFE size) = modrm-then _ (λ m. tt)
 
 -- the outer segment wins
 in-segment-again : (g later : Segment) (d : Operand) → inSegment g (inSegment later d) ≡ inSegment g d

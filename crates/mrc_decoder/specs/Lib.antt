@@ -1,3 +1,3 @@
 pub mod Form
-pub mod Codes
-pub mod Wrap
+pub mod Table
+pub mod Prefixes

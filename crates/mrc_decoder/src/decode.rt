@@ -5,12 +5,27 @@ use crate::form::WithModRM;
 use crate::form::form_of;
 use crate::prefixes::under_override;
 use crate::prefixes::with_repeat;
+use mrc_directed::common::immediate_to_accumulator;
+use mrc_directed::common::immediate_to_register_or_memory;
+use mrc_directed::common::register_or_memory_and_register;
+use mrc_directed::common::register_or_memory_and_segment;
+use mrc_directed::pairs::accumulator_and_direct;
+use mrc_directed::pairs::exchange;
+use mrc_directed::pairs::group_83;
+use mrc_directed::pairs::group_f6;
+use mrc_directed::pairs::in_dx;
+use mrc_directed::pairs::in_port;
+use mrc_directed::pairs::out_dx;
+use mrc_directed::pairs::out_port;
+use mrc_directed::pairs::register_and_immediate;
+use mrc_directed::pairs::shift_by_count;
+use mrc_directed::pairs::shift_by_immediate;
 use mrc_forms::answers::FormRead;
+use mrc_forms::forms::bare;
 use mrc_forms::forms::escape;
 use mrc_forms::forms::far;
-use mrc_forms::forms::increment;
+use mrc_forms::forms::group_fe;
 use mrc_forms::forms::invalid;
-use mrc_forms::forms::no_operand;
 use mrc_forms::forms::on_displacement;
 use mrc_forms::forms::on_immediate;
 use mrc_forms::forms::on_register;
@@ -20,37 +35,22 @@ use mrc_instruction::errors::Refusal;
 use mrc_instruction::mrrm::OperandRead;
 use mrc_instruction::mrrm::read_operand;
 use mrc_instruction::operand::OperandSize;
-use mrc_pairs::common::immediate_to_accumulator;
-use mrc_pairs::common::immediate_to_register_or_memory;
-use mrc_pairs::common::register_or_memory_and_register;
-use mrc_pairs::common::register_or_memory_and_segment;
-use mrc_pairs::pairs::accumulator_and_direct;
-use mrc_pairs::pairs::byte_to_register_or_memory;
-use mrc_pairs::pairs::exchange;
-use mrc_pairs::pairs::in_dx;
-use mrc_pairs::pairs::in_port;
-use mrc_pairs::pairs::out_dx;
-use mrc_pairs::pairs::out_port;
-use mrc_pairs::pairs::register_and_immediate;
-use mrc_pairs::pairs::shift_by_count;
-use mrc_pairs::pairs::shift_by_immediate;
-use mrc_pairs::pairs::unary;
 use mrc_rules::Answer;
 ghost use mathlib.Core.Path.{_≡_};
 ghost use mathlib.Core.List.{[]};
 ghost use lib.ListN.{drop};
-ghost use Rattle.mrc_instruction.specs.Reading.{readFrom};
+ghost use Rattle.mrc_instruction.specs.Reader.{readFrom};
 ghost use Rattle.mrc_rules.specs.Decode.{decodeAt};
-ghost use Rattle.mrc_forms.specs.Behind.{readBy, formRead};
-ghost use Rattle.mrc_decoder.specs.Form.{aloneRow, modRMReading};
-ghost use Rattle.mrc_decoder.specs.Wrap.{tooMany, pastEnd};
+ghost use Rattle.mrc_forms.specs.Answers.{readBy, formRead};
+ghost use Rattle.mrc_decoder.specs.Form.{aloneRow, modRMReader};
+ghost use Rattle.mrc_decoder.specs.Prefixes.{tooMany, pastEnd};
 
 // A form that is its opcode alone.
 fn opcode_alone(form: OpcodeAlone, opcode: u8) -> Answer
     ensures { λ r. ⌜ r ≡ readBy opcode (aloneRow form opcode) [] ⌝ }
 {
     match form {
-        OpcodeAlone::NoOperand(operation) => return no_operand(operation),
+        OpcodeAlone::Bare(operation) => return bare(operation),
         OpcodeAlone::OnSegment(operation) => return on_segment(operation, opcode),
         OpcodeAlone::Exchange => return exchange(opcode),
         OpcodeAlone::InDx => return in_dx(opcode),
@@ -60,13 +60,13 @@ fn opcode_alone(form: OpcodeAlone, opcode: u8) -> Answer
 
 // A form with a ModRM, from the position behind the opcode on: the operand of a size that the ModRM names, and what follows.
 fn with_modrm(form: WithModRM, size: OperandSize, opcode: u8, s: &[u8], at: usize) -> FormRead
-    ensures { λ r. ⌜ r ≡ formRead at (readFrom (modRMReading form size opcode) (drop at (now (s .entry)))) ⌝ }
+    ensures { λ r. ⌜ r ≡ formRead at (readFrom (modRMReader form size opcode) (drop at (now (s .entry)))) ⌝ }
 {
     match read_operand(size, s, at) {
         OperandRead::Got(operand, next, byte) => match form {
             WithModRM::Pop => return pop(operand, byte, next),
-            WithModRM::Increment => return increment(operand, byte, next),
-            WithModRM::Unary => return unary(size, operand, byte, s, next),
+            WithModRM::GroupFE => return group_fe(operand, byte, next),
+            WithModRM::GroupF6 => return group_f6(size, operand, byte, s, next),
             WithModRM::RegisterOrMemoryAndRegister(operation, direction) => {
                 return register_or_memory_and_register(
                     operation,
@@ -84,8 +84,8 @@ fn with_modrm(form: WithModRM, size: OperandSize, opcode: u8, s: &[u8], at: usiz
             WithModRM::ImmediateToRegisterOrMemory(group) => {
                 return immediate_to_register_or_memory(group, size, operand, byte, s, next);
             }
-            WithModRM::ByteToRegisterOrMemory => {
-                return byte_to_register_or_memory(operand, byte, s, next);
+            WithModRM::Group83 => {
+                return group_83(operand, byte, s, next);
             }
             WithModRM::ShiftByImmediate => return shift_by_immediate(operand, byte, s, next),
             WithModRM::ShiftByCount => return shift_by_count(opcode, size, operand, byte, next),

@@ -11,7 +11,7 @@ ghost use mathlib.Core.Path.{_≡_};
 ghost use mathlib.Core.Option.{some};
 ghost use Rattle.mrc_instruction.specs.declared.instruction.Repeated.{Repeated};
 ghost use Rattle.mrc_rules.specs.Prefixes.{inSegment, repeatOf};
-ghost use Rattle.mrc_decoder.specs.Wrap.{refusalUnder, underOverride, withRepeat, Small};
+ghost use Rattle.mrc_decoder.specs.Prefixes.{refusalUnder, underOverride, withRepeat, Small};
 
 // The operand in another segment, where it is Direct or Indirect.
 pub fn override_segment(operand: Operand, segment: Segment) -> Operand

@@ -6,10 +6,10 @@ use mathlib.Core.Path.{_≡_}
 use mathlib.Core.List.{List}
 use lib.ListN.{length}
 use Rattle.mrc_instruction.specs.declared.operand.OperandSize.{OperandSize}
-use Rattle.mrc_instruction.specs.Reading.{Outcome, readFrom}
+use Rattle.mrc_instruction.specs.Reader.{Outcome, readFrom}
 use Rattle.mrc_instruction.specs.Values.{outcomeValues, OfReader}
 use Rattle.mrc_rules.specs.Forms.{Tail, anImmediate, aDisplacement}
-use Rattle.mrc_forms.specs.Behind.{formRead, formValues}
+use Rattle.mrc_forms.specs.Answers.{formRead, formValues}
 use Rattle.mrc_forms.specs.Traits.{immediateRead, immediateValues, displacementRead, displacementValues}
 use Rattle.mrc_forms.proofs.Values as says
 

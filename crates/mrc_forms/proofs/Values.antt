@@ -6,14 +6,14 @@ use Prim.Native.Nat.{ℕ}
 use lib.ListN.{length}
 use Rattle.mrc_instruction.specs.declared.operand.OperandSize.{OperandSize}
 use Rattle.mrc_instruction.specs.declared.operand.OperandSize.the-variants.{Byte, Word}
-use Rattle.mrc_instruction.specs.Reading.{Outcome, readFrom, got, stopped, aByte, aWord}
+use Rattle.mrc_instruction.specs.Reader.{Outcome, readFrom, got, stopped, aByte, aWord}
 use Rattle.mrc_instruction.specs.Values.{carrying, refusedWith, outcomeValues, OfReader}
 use Rattle.mrc_instruction.proofs.Ends.{Takes}
 use Rattle.mrc_instruction.proofs.Values.{answer-says, back}
 use Rattle.mrc_rules.specs.Forms.{Tail, anImmediate, aDisplacement}
 use Rattle.mrc_forms.specs.declared.traits.ImmediateRead.{ImmediateRead}
 use Rattle.mrc_forms.specs.declared.traits.DisplacementRead.{DisplacementRead}
-use Rattle.mrc_forms.specs.Behind.{formRead, formValues}
+use Rattle.mrc_forms.specs.Answers.{formRead, formValues}
 use Rattle.mrc_forms.specs.Traits.{immediateRead, immediateValues, displacementRead, displacementValues}
 
 takes-immediate : (size : OperandSize) → Takes (anImmediate size)

@@ -5,7 +5,7 @@ use lib.Dec.{eqb}
 use Rattle.mrc_instruction.specs.declared.operand.OperandSize.{OperandSize}
 use Rattle.mrc_instruction.specs.declared.operand.Immediate.{Immediate}
 use Rattle.mrc_instruction.specs.declared.operand.Displacement.{Displacement}
-use Rattle.mrc_instruction.specs.Reading.{Outcome}
+use Rattle.mrc_instruction.specs.Reader.{Outcome}
 use Rattle.mrc_instruction.specs.Values.{Values, carrying, refusedWith}
 use Rattle.mrc_instruction.specs.Read.{answered}
 use Rattle.mrc_forms.specs.declared.traits.ImmediateRead.{ImmediateRead}

@@ -6,8 +6,8 @@ use mrc_instruction::operation::Operation;
 use mrc_rules::Answer;
 ghost use mathlib.Core.Path.{_≡_};
 ghost use Rattle.mrc_instruction.specs.Instruction.{plain};
-ghost use Rattle.mrc_instruction.specs.Reading.{got, stopped};
-ghost use Rattle.mrc_forms.specs.Behind.{alone};
+ghost use Rattle.mrc_instruction.specs.Reader.{got, stopped};
+ghost use Rattle.mrc_forms.specs.Answers.{alone};
 
 // The instruction, or why there is none, with the position behind the bytes taken.
 pub enum FormRead {

@@ -2,7 +2,7 @@
 use crate::answers::FormRead;
 use crate::answers::decoded;
 use crate::answers::refused;
-use crate::groups::increment_operation;
+use crate::groups::group_fe_operation;
 use crate::traits::DisplacementRead;
 use crate::traits::ImmediateRead;
 use crate::traits::read_displacement;
@@ -27,10 +27,10 @@ ghost use mathlib.Core.List.{[]};
 ghost use Prim.Native.Nat.{_/_, _%_};
 ghost use lib.ListN.{drop};
 ghost use Rattle.mrc_instruction.specs.Register.{registerOf, segmentOf};
-ghost use Rattle.mrc_instruction.specs.Reading.{readFrom};
-ghost use Rattle.mrc_rules.specs.Forms.{invalid as invalidRow, bare, onSegment, onRegister, onImmediate, jump, far as farRow, escape as escapeRow, one, incOrDec};
+ghost use Rattle.mrc_instruction.specs.Reader.{readFrom};
+ghost use Rattle.mrc_rules.specs.Forms.{invalid as invalidRow, bare, onSegment, onRegister, onImmediate, onDisplacement, far as farRow, escape as escapeRow, one, groupFEOperation};
 ghost use Rattle.mrc_forms.specs.declared.answers.FormRead.{FormRead};
-ghost use Rattle.mrc_forms.specs.Behind.{readBy, formRead, popBehind};
+ghost use Rattle.mrc_forms.specs.Answers.{readBy, formRead, popBehind};
 
 // No instruction has this opcode.
 pub fn invalid(opcode: u8) -> Answer
@@ -40,7 +40,7 @@ pub fn invalid(opcode: u8) -> Answer
 }
 
 // An operation with no operand.
-pub fn no_operand(operation: Operation) -> Answer
+pub fn bare(operation: Operation) -> Answer
     ensures { λ r. ⌜ r ≡ readBy 0 (bare operation) [] ⌝ }
 {
     decoded(operation, OperandSet::None, 1)
@@ -78,7 +78,7 @@ pub fn on_immediate(operation: Operation, size: OperandSize, s: &[u8], at: usize
 
 // An operation on a displacement: jumps, calls, and C2.
 pub fn on_displacement(operation: Operation, size: OperandSize, s: &[u8], at: usize) -> Answer
-    ensures { λ r. ⌜ r ≡ readBy 0 (jump operation size) (drop at (now (s .entry))) ⌝ }
+    ensures { λ r. ⌜ r ≡ readBy 0 (onDisplacement operation size) (drop at (now (s .entry))) ⌝ }
 {
     match read_displacement(size, s, at) {
         DisplacementRead::Got(displacement, n) => {
@@ -128,10 +128,10 @@ pub fn pop(destination: Operand, byte: u8, at: usize) -> FormRead
 }
 
 // FE and FF, by reg: INC, DEC, CALL, JMP and PUSH of the register or memory.
-pub fn increment(destination: Operand, byte: u8, at: usize) -> FormRead
-    ensures { λ r. ⌜ r ≡ FormRead.Got (one (incOrDec (byte / 8 % 8)) destination) at ⌝ }
+pub fn group_fe(destination: Operand, byte: u8, at: usize) -> FormRead
+    ensures { λ r. ⌜ r ≡ FormRead.Got (one (groupFEOperation (byte / 8 % 8)) destination) at ⌝ }
 {
-    let operation = increment_operation(byte / 8 % 8);
+    let operation = group_fe_operation(byte / 8 % 8);
     let operands = OperandSet::Destination(destination);
     return FormRead::Got(Instruction::new(operation, operands), at);
 }

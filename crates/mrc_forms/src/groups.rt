@@ -2,7 +2,7 @@
 use mrc_instruction::operation::Operation;
 ghost use mathlib.Core.Path.{_≡_};
 ghost use Prim.Native.Nat.{_/_, _%_};
-ghost use Rattle.mrc_rules.specs.Forms.{arithmetic, shift, incOrDec, unaryOperation};
+ghost use Rattle.mrc_rules.specs.Forms.{arithmetic, shift, groupFEOperation, groupF6Operation};
 ghost use Rattle.mrc_forms.specs.Groups.{jumpOf, immediateOperation};
 
 // 80 to 83, by reg.
@@ -61,8 +61,8 @@ pub fn immediate_operation(group: u8, bits: u8) -> Operation
 }
 
 // F6 and F7, by reg less 2.
-pub fn unary_operation(bits: u8) -> Operation
-    ensures { λ r. ⌜ r ≡ unaryOperation bits ⌝ }
+pub fn group_f6_operation(bits: u8) -> Operation
+    ensures { λ r. ⌜ r ≡ groupF6Operation bits ⌝ }
 {
     match bits {
         0 => Operation::NOT,
@@ -75,8 +75,8 @@ pub fn unary_operation(bits: u8) -> Operation
 }
 
 // FE and FF, by reg.
-pub fn increment_operation(bits: u8) -> Operation
-    ensures { λ r. ⌜ r ≡ incOrDec bits ⌝ }
+pub fn group_fe_operation(bits: u8) -> Operation
+    ensures { λ r. ⌜ r ≡ groupFEOperation bits ⌝ }
 {
     match bits {
         0 => Operation::INC,

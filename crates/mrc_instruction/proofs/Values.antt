@@ -1,4 +1,4 @@
--- A reader's answer says in numbers what the outcome says that it was made from; and where a reading refuses nothing by itself, that is what a
+-- A reader's answer says in numbers what the outcome says that it was made from; and where a reader refuses nothing by itself, that is what a
 -- reader may say.
 -- Assumes nothing.
 use mathlib.Core.Path.{_≡_, refl, ap, _∙_}
@@ -20,13 +20,13 @@ use Rattle.mrc_instruction.specs.declared.read.WordRead.{WordRead}
 use Rattle.mrc_instruction.specs.declared.mrrm.RegisterOrMemoryRead.{RegisterOrMemoryRead}
 use Rattle.mrc_instruction.specs.declared.mrrm.MrrmRead.{MrrmRead}
 use Rattle.mrc_instruction.specs.declared.mrrm.OperandRead.{OperandRead}
-use Rattle.mrc_instruction.specs.Reading.{Reading, Outcome, got, stopped, takenBy, readFrom, readAt, aByte, aWord}
+use Rattle.mrc_instruction.specs.Reader.{Reader, Outcome, got, stopped, takenBy, readFrom, readAt, aByte, aWord}
 use Rattle.mrc_instruction.specs.Values.{Values, carrying, refusedWith, outcomeValues, OfReader}
 use Rattle.mrc_instruction.specs.Register.{registerField, registerValues, RegisterNamed, segmentField, segmentValues, SegmentNamed}
 use Rattle.mrc_instruction.specs.Operand.{addressingField, addressingValues, AddressingNamed}
 use Rattle.mrc_instruction.specs.Mrrm.{ModRM, registerOrMemory, aModRM, operandOf}
 use Rattle.mrc_instruction.specs.Read.{answered, byteRead, wordRead, registerOrMemoryRead, mrrmRead, operandRead, byteValues, wordValues, registerOrMemoryValues, mrrmValues, MrrmAt, operandValues}
-use Rattle.mrc_instruction.proofs.Then.{taken-le}
+use Rattle.mrc_instruction.proofs.Sequence.{taken-le}
 use Rattle.mrc_instruction.proofs.Ends.{Takes, Ended, ends, takes-byte, takes-word, takes-register-or-memory, takes-modrm}
 
 module _ {A : Type 0} where
@@ -34,7 +34,7 @@ module _ {A : Type 0} where
   reader-said l (got a n) h e = inl (h, refl)
   reader-said l (stopped x n) h e = inr (ap (λ y. refusedWith y n 0) (e .0) ∙ ap (λ k. carrying 2 0 k 0) (e .1))
 
-  pub reader-says : (m : Reading A) (l : List ℕ) → Takes m → OfReader (length l) (outcomeValues (readFrom m l))
+  pub reader-says : (m : Reader A) (l : List ℕ) → Takes m → OfReader (length l) (outcomeValues (readFrom m l))
   reader-says m l h = reader-said l (readFrom m l) (taken-le m l) (ends m l h)
 
 -- where both cases of an answer say what their outcomes say
@@ -44,13 +44,13 @@ module _ {A R : Type 0} (whenGot : A → ℕ → R) (whenRefused : Refusal → �
   same-values (got a n) = of-got a n
   same-values (stopped e n) = of-refused e n
 
-  pub answer-says : (m : Reading A) (l : List ℕ) → Takes m → OfReader (length l) (values (answered whenGot whenRefused (readFrom m l)))
+  pub answer-says : (m : Reader A) (l : List ℕ) → Takes m → OfReader (length l) (values (answered whenGot whenRefused (readFrom m l)))
   answer-says m l h = rw (same-values (readFrom m l)) (reader-says m l h)
 
 -- at a position of an input
 module _ {A R : Type 0} (whenGot : A → ℕ → R) (whenRefused : Refusal → ℕ → R) (values : R → Values)
     (of-got : (a : A) (n : ℕ) → values (whenGot a n) ≡ carrying 0 0 n 0) (of-refused : (e : Refusal) (n : ℕ) → values (whenRefused e n) ≡ refusedWith e n 0)
-    (m : Reading A) (s : List ℕ) (at : ℕ) where
+    (m : Reader A) (s : List ℕ) (at : ℕ) where
   pub outside-says : length s < at → values (answered whenGot whenRefused (readAt m s at)) ≡ carrying 11 0 0 0
   outside-says h = rw (lt-leb at (length s) h) (of-refused Refusal.OutsideInput 0)
 

@@ -12,11 +12,11 @@ use Rattle.mrc_instruction.specs.declared.mrrm.ModRegRM.{ModRegRM}
 use Rattle.mrc_instruction.specs.Register.{registerOf}
 use Rattle.mrc_instruction.specs.Operand.{addressingOf}
 use Rattle.mrc_instruction.specs.Signed.{signedByte, signedWord}
-use Rattle.mrc_instruction.specs.Reading.{Reading, done, _>>=_, aByte, aWord}
+use Rattle.mrc_instruction.specs.Reader.{Reader, done, _>>=_, aByte, aWord}
 
 -- by mod and rm: "mod 0 with rm 6 is Direct with a 16-bit offset, low byte first; otherwise mod 0 is Indirect without displacement; mod 1
 -- adds a signed byte, mod 2 a signed word, mod 3 is a register"
-abbrev pub registerOrMemory : ℕ → ℕ → Reading RegisterOrMemory
+abbrev pub registerOrMemory : ℕ → ℕ → Reader RegisterOrMemory
 registerOrMemory zero rm =
     cond (eqb rm 6) (aWord >>= λ w. done (RegisterOrMemory.Direct w)) (done (RegisterOrMemory.Indirect (addressingOf rm)))
 registerOrMemory (suc zero) rm = aByte >>= λ b. done (RegisterOrMemory.DisplacementByte (addressingOf rm) (signedByte b))
@@ -35,7 +35,7 @@ regField m = m .byte / 8 % 8
 abbrev pub modRM : ℕ → RegisterOrMemory → ModRM
 modRM b x = record { byte = b; mrrm = record { register = registerOf (b / 8 % 8); «register_or_memory» = x } }
 
-abbrev pub aModRM : Reading ModRM
+abbrev pub aModRM : Reader ModRM
 aModRM = do
   b ← aByte
   x ← registerOrMemory (b / 64) (b % 8)

@@ -4,7 +4,7 @@ use mathlib.Core.Logic.{_⊎_}
 use Prim.Native.Nat.{ℕ, _≤_}
 use Rattle.mrc_instruction.specs.declared.errors.Refusal.{Refusal}
 use Rattle.mrc_instruction.specs.Errors.{numberOf, byteOf}
-use Rattle.mrc_instruction.specs.Reading.{Outcome, got, stopped}
+use Rattle.mrc_instruction.specs.Reader.{Outcome, got, stopped}
 
 pub record Values : Type 0 where
   pub number : ℕ
@@ -19,7 +19,7 @@ carrying number byte taken prefixes = record { number = number; byte = byte; tak
 abbrev pub refusedWith : Refusal → ℕ → ℕ → Values
 refusedWith e taken prefixes = carrying (numberOf e) (byteOf e) taken prefixes
 
--- a reading reads no prefix
+-- a reader takes no prefix
 abbrev pub outcomeValues : {A : Type 0} → Outcome A → Values
 outcomeValues (got a n) = carrying 0 0 n 0
 outcomeValues (stopped e n) = refusedWith e n 0

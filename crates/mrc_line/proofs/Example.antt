@@ -3,7 +3,7 @@
 use mathlib.Core.Path.{_≡_, refl}
 use mathlib.Core.List.{_++_, map}
 use Rattle.mrc_rules.specs.Table.{rows, rowOf}
-use Rattle.mrc_instruction.specs.Reading.{aByte, aWord}
+use Rattle.mrc_instruction.specs.Reader.{aByte, aWord}
 use Rattle.mrc_line.specs.Text.{bytes}
 use Rattle.mrc_line.specs.Line.{headText, instructionText, stepText, lineText, lineTaken, lineEnd}
 use Rattle.mrc_line.specs.Page.{linesFrom, linesOf}

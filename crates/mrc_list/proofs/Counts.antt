@@ -11,12 +11,12 @@ use lib.Signed.{ltZ, nonNeg}
 use mir.Syntax.{w64}
 use mir.Val.{SFits, Fits}
 use Rattle.mrc_line.specs.Target.{offsets}
-use Rattle.mrc_list.specs.declared.reading.Input.{Input}
-use Rattle.mrc_list.specs.declared.reading.Input.the-variants.{Image, TooLong, Failed}
-use Rattle.mrc_list.specs.declared.reading.Reading.{Reading}
-use Rattle.mrc_list.specs.declared.reading.Reading.the-variants.{More, Read}
-use Rattle.mrc_list.specs.Reading as Spec
-use Rattle.mrc_list.specs.Reading.{afterRead, inputOf, Comes, Reads, last, more}
+use Rattle.mrc_list.specs.declared.input.Input.{Input}
+use Rattle.mrc_list.specs.declared.input.Input.the-variants.{Image, TooLong, Failed}
+use Rattle.mrc_list.specs.declared.input.Progress.{Progress}
+use Rattle.mrc_list.specs.declared.input.Progress.the-variants.{More, Read}
+use Rattle.mrc_list.specs.Progress as Spec
+use Rattle.mrc_list.specs.Input.{afterRead, inputOf, Comes, Reads, last, more}
 
 -- ---- the answer's number
 
@@ -50,7 +50,7 @@ pub record Onward (there filled : ℕ) : Type 0 where
 
 -- the cases of a count: whether the bytes are too many, and whether none came
 module _ (there k : ℕ) where
-  abbrev By : Bool → Bool → Reading
+  abbrev By : Bool → Bool → Progress
   By a b = cond a (Read TooLong) (cond b (Read (Image there)) (More (there + k)))
 
   onward-by : (filled : ℕ) (a b : Bool) → (a ≡ false → there + k ≤ offsets) → (b ≡ false → ¬ (k ≡ 0)) → More filled ≡ By a b → Onward there filled

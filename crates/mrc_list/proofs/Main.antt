@@ -9,9 +9,9 @@ use Rattle.mrc_instruction.specs.Promise.{ExactlyOne}
 use Rattle.mrc_line.specs.Target.{offsets}
 use Rattle.mrc_line.specs.Line.{longest}
 use Rattle.mrc_line.specs.Page.{linesOf, textOf}
-use Rattle.mrc_list.specs.declared.reading.Input.{Input}
+use Rattle.mrc_list.specs.declared.input.Input.{Input}
 use Rattle.mrc_list.specs.declared.listing.Turn.{Turn}
-use Rattle.mrc_list.specs.Reading.{inputOf, Reads}
+use Rattle.mrc_list.specs.Input.{inputOf, Reads}
 use Rattle.mrc_list.specs.Listing.{Turned, Writes}
 use Rattle.mrc_list.proofs.Counts as Counts
 use Rattle.mrc_list.proofs.Turns as Turns

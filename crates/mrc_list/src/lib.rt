@@ -1,23 +1,23 @@
-// The listing of standard input on standard output: what the program `list` does. What it decides is promised, in `reading` and `listing`;
+// The listing of standard input on standard output: what the program `list` does. What it decides is promised, in `input` and `listing`;
 // the functions here move bytes between those and the system.
+pub mod input;
 pub mod listing;
-pub mod reading;
 
+use crate::input::Input;
+use crate::input::Progress;
+use crate::input::after_read;
+use crate::input::start;
+use crate::input::wanted;
 use crate::listing::Turn;
 use crate::listing::next_page;
 use crate::listing::too_long;
-use crate::reading::Input;
-use crate::reading::Reading;
-use crate::reading::after_read;
-use crate::reading::start;
-use crate::reading::wanted;
 use libc::STDERR_FILENO;
 use libc::STDIN_FILENO;
 use libc::STDOUT_FILENO;
 ghost use Prim.Native.Nat.{_≤_, _<_};
 ghost use lib.ListN.{length};
 ghost use Rattle.mrc_line.specs.Target.{offsets};
-ghost use Rattle.mrc_list.specs.Reading.{Fits};
+ghost use Rattle.mrc_list.specs.Input.{Fits};
 
 // Reads standard input to its end, or until a byte too many is there.
 fn read_input(image: &mut [u8]) -> Input
@@ -29,10 +29,10 @@ fn read_input(image: &mut [u8]) -> Input
         let end = there + wanted(there);
         let got = libc::read(STDIN_FILENO, &mut image[there..end]);
         match after_read(there, got) {
-            Reading::More(filled) => {
+            Progress::More(filled) => {
                 there = filled;
             }
-            Reading::Read(input) => {
+            Progress::Read(input) => {
                 return input;
             }
         }

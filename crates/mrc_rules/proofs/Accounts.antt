@@ -13,14 +13,14 @@ use Rattle.mrc_instruction.specs.declared.register.RegisterEncoding.the-variant
 use Rattle.mrc_instruction.specs.declared.operand.OperandSize.{OperandSize}
 use Rattle.mrc_instruction.specs.declared.operand.OperandSize.the-variants.{Byte, Word}
 use Rattle.mrc_instruction.specs.declared.operation.Operation.the-variants.{ESC, IN, MOV, OUT, POP, XCHG}
-use Rattle.mrc_rules.specs.Forms.{Row, bare, prefix, invalid, rmReg, regRm, accImmediate, onSegment, onRegister, jump, groupImmediate, groupByteToWord, popRm, rmSegment, segmentRm, exchange, far, accDirect, directAcc, registerImmediate, shiftImmediate, shiftOne, shiftCl, onImmediate, moveImmediate, escape, inPort, outPort, inDx, outDx, unary, incDec}
+use Rattle.mrc_rules.specs.Forms.{Row, bare, prefix, invalid, rmReg, regRm, immediateToAccumulator, onSegment, onRegister, onDisplacement, group80, group83, pop, rmSegment, segmentRm, exchange, far, accDirect, directAcc, registerAndImmediate, shiftByImmediate, shiftByOne, shiftByCl, onImmediate, groupC6, escape, inPort, outPort, inDx, outDx, groupF6, groupFE}
 use Rattle.mrc_rules.specs.Table.{rows, rowOf}
 use Rattle.mrc_rules.specs.Prefixes.{isPrefix}
 use Rattle.mrc_rules.specs.Operands.{RM, REG, SEGREG, IMMED, ZERO16, MEM, REL, FAR, THE, SEG, ONE, AX, DX, Places, nothing, only, _⟵_, test, places, byteAt, regAt}
 use Rattle.mrc_rules.specs.Operations.{Mnemonic, the, byReg, mnemonics}
 use Rattle.mrc_rules.specs.Operations as op
 use Rattle.mrc_rules.specs.Lengths.{Extra, fixed, modRM, tested, extras}
-use Rattle.mrc_rules.specs.Refusals.{Verdict, read, refused, isUnread, isPop, isUnary, isSegmentMove, byOpcode}
+use Rattle.mrc_rules.specs.Refusals.{Verdict, read, refused, isUnread, isPop, isGroupF6, isSegmentMove, byOpcode}
 
 -- the tests that decide whether a row reads
 pub data Bar : Type 0 where
@@ -45,32 +45,32 @@ accountOf prefix = account nothing op.nothing (fixed 0) shut
 accountOf invalid = account nothing op.nothing (fixed 0) shut
 accountOf (rmReg o size) = account (RM size ⟵ REG size) (the o) (modRM 0) free
 accountOf (regRm o size) = account (REG size ⟵ RM size) (the o) (modRM 0) free
-accountOf (accImmediate o size) = account (THE AlAx size ⟵ IMMED size) (the o) (fixed (bytesIn size)) free
+accountOf (immediateToAccumulator o size) = account (THE AlAx size ⟵ IMMED size) (the o) (fixed (bytesIn size)) free
 accountOf (onSegment o s) = account (only (SEG s)) (the o) (fixed 0) free
 accountOf (onRegister o r) = account (only (THE r Word)) (the o) (fixed 0) free
-accountOf (jump o size) = account (only (REL size)) (the o) (fixed (bytesIn size)) free
-accountOf (groupImmediate size) = account (RM size ⟵ IMMED size) (byReg op.arithmetic) (modRM (bytesIn size)) free
-accountOf groupByteToWord = account (RM Word ⟵ ZERO16) (byReg op.arithmetic) (modRM 1) free
-accountOf popRm = account (only (RM Word)) (the POP) (modRM 0) popped
+accountOf (onDisplacement o size) = account (only (REL size)) (the o) (fixed (bytesIn size)) free
+accountOf (group80 size) = account (RM size ⟵ IMMED size) (byReg op.arithmetic) (modRM (bytesIn size)) free
+accountOf group83 = account (RM Word ⟵ ZERO16) (byReg op.arithmetic) (modRM 1) free
+accountOf pop = account (only (RM Word)) (the POP) (modRM 0) popped
 accountOf rmSegment = account (RM Word ⟵ SEGREG) (the MOV) (modRM 0) segment
 accountOf segmentRm = account (SEGREG ⟵ RM Word) (the MOV) (modRM 0) segment
 accountOf (exchange r) = account (AX ⟵ THE r Word) (the XCHG) (fixed 0) free
 accountOf (far o) = account (only FAR) (the o) (fixed 4) free
 accountOf (accDirect size) = account (THE AlAx size ⟵ MEM size) (the MOV) (fixed 2) free
 accountOf (directAcc size) = account (MEM size ⟵ THE AlAx size) (the MOV) (fixed 2) free
-accountOf (registerImmediate r size) = account (THE r size ⟵ IMMED size) (the MOV) (fixed (bytesIn size)) free
-accountOf (shiftImmediate size) = account (RM size ⟵ IMMED Byte) (byReg op.shifts) (modRM 1) free
-accountOf (shiftOne size) = account (RM size ⟵ ONE) (byReg op.shifts) (modRM 0) free
-accountOf (shiftCl size) = account (RM size ⟵ THE ClCx size) (byReg op.shifts) (modRM 0) free
+accountOf (registerAndImmediate r size) = account (THE r size ⟵ IMMED size) (the MOV) (fixed (bytesIn size)) free
+accountOf (shiftByImmediate size) = account (RM size ⟵ IMMED Byte) (byReg op.shifts) (modRM 1) free
+accountOf (shiftByOne size) = account (RM size ⟵ ONE) (byReg op.shifts) (modRM 0) free
+accountOf (shiftByCl size) = account (RM size ⟵ THE ClCx size) (byReg op.shifts) (modRM 0) free
 accountOf (onImmediate o size) = account (only (IMMED size)) (the o) (fixed (bytesIn size)) free
-accountOf (moveImmediate size) = account (RM size ⟵ IMMED size) (the MOV) (modRM (bytesIn size)) free
+accountOf (groupC6 size) = account (RM size ⟵ IMMED size) (the MOV) (modRM (bytesIn size)) free
 accountOf escape = account nothing (the ESC) (fixed 1) free
 accountOf (inPort size) = account (THE AlAx size ⟵ IMMED Byte) (the IN) (fixed 1) free
 accountOf (outPort size) = account (IMMED Byte ⟵ THE AlAx size) (the OUT) (fixed 1) free
 accountOf (inDx size) = account (THE AlAx size ⟵ DX) (the IN) (fixed 0) free
 accountOf (outDx size) = account (DX ⟵ THE AlAx size) (the OUT) (fixed 0) free
-accountOf (unary size) = account (test (RM size) (IMMED size)) (byReg op.unary) (tested (bytesIn size)) grouped
-accountOf (incDec size) = account (only (RM size)) (byReg op.transfers) (modRM 0) free
+accountOf (groupF6 size) = account (test (RM size) (IMMED size)) (byReg op.groupF6) (tested (bytesIn size)) grouped
+accountOf (groupFE size) = account (only (RM size)) (byReg op.transfers) (modRM 0) free
 
 -- what a test decides, by the bytes from the opcode on
 abbrev pub verdictBy : Bar → List ℕ → Verdict
@@ -82,7 +82,7 @@ verdictBy grouped l = cond (eqb (regAt l) 1) (refused 6 1) read
 
 -- the test that a first byte has
 abbrev barBehind : ℕ → Bar
-barBehind b = cond (isUnread b) shut (cond (isPop b) popped (cond (isUnary b) grouped (cond (isSegmentMove b) segment free)))
+barBehind b = cond (isUnread b) shut (cond (isPop b) popped (cond (isGroupF6 b) grouped (cond (isSegmentMove b) segment free)))
 
 abbrev barAt : ℕ → Bar
 barAt b = cond (isPrefix b) shut (barBehind b)
@@ -154,7 +154,7 @@ row-bar opcode h =
 pub row-verdict : (l : List ℕ) → byteAt l 0 < 256 → isPrefix (byteAt l 0) ≡ false → verdictBy (accountOf (rowOf (byteAt l 0)) .bar) l ≡ byOpcode l
 row-verdict l h e =
     ap (λ (t : Bar). verdictBy t l) (row-bar (byteAt l 0) h ∙ ap (λ (t : Bool). cond t shut (barBehind (byteAt l 0))) e)
-    ∙ go (isUnread (byteAt l 0)) (isPop (byteAt l 0)) (isUnary (byteAt l 0)) (isSegmentMove (byteAt l 0))
+    ∙ go (isUnread (byteAt l 0)) (isPop (byteAt l 0)) (isGroupF6 (byteAt l 0)) (isSegmentMove (byteAt l 0))
   where
     go : (u p g s : Bool)
         → verdictBy (cond u shut (cond p popped (cond g grouped (cond s segment free)))) l

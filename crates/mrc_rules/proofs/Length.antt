@@ -11,8 +11,8 @@ use lib.Dec.{eqb, leb}
 use borrow.Author.Tests.{leb-true}
 use Rattle.mrc_instruction.specs.declared.instruction.Instruction.{Instruction}
 use Rattle.mrc_instruction.specs.declared.errors.Refusal.{Refusal}
-use Rattle.mrc_instruction.specs.Reading.{Outcome, got, stopped, takenBy, readFrom}
-use Rattle.mrc_instruction.proofs.Then.{taken-more}
+use Rattle.mrc_instruction.specs.Reader.{Outcome, got, stopped, takenBy, readFrom}
+use Rattle.mrc_instruction.proofs.Sequence.{taken-more}
 use Rattle.mrc_rules.specs.declared.Answer.{Answer}
 use Rattle.mrc_rules.specs.Answer.{taken, prefixes}
 use Rattle.mrc_rules.specs.Forms.{Tail}

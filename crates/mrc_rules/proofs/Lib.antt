@@ -1,4 +1,4 @@
-pub mod Readings
+pub mod Cases
 pub mod Runs
 pub mod Strike
 pub mod Answers

@@ -12,7 +12,7 @@ use lib.ListN.{length, getD, take, drop}
 use Rattle.mrc_instruction.specs.declared.errors.Refusal.{Refusal}
 use Rattle.mrc_instruction.specs.declared.instruction.OperandSet.{OperandSet}
 use Rattle.mrc_instruction.specs.declared.instruction.Instruction.{Instruction}
-use Rattle.mrc_instruction.specs.Reading.{Outcome, got, stopped, takenBy}
+use Rattle.mrc_instruction.specs.Reader.{Outcome, got, stopped, takenBy}
 use Rattle.mrc_rules.specs.declared.Answer.{Answer}
 use Rattle.mrc_rules.specs.Forms.{Tail}
 use Rattle.mrc_rules.specs.Prefixes.{runOf, tailOf, first, isOverride, isRepeat, repeatOf, overrideSegment, under}

@@ -17,7 +17,7 @@ use Rattle.mrc_instruction.specs.declared.operand.Displacement.{Displacement}
 use Rattle.mrc_instruction.specs.declared.operand.Operand.{Operand}
 use Rattle.mrc_instruction.specs.declared.mrrm.RegisterOrMemory.{RegisterOrMemory}
 use Rattle.mrc_instruction.specs.Errors.{numberOf, byteOf}
-use Rattle.mrc_instruction.specs.Reading.{Reading, done, _>>=_, aByte, aWord}
+use Rattle.mrc_instruction.specs.Reader.{Reader, done, _>>=_, aByte, aWord}
 use Rattle.mrc_instruction.specs.Signed.{signedByte, signedWord}
 use Rattle.mrc_instruction.specs.Register.{segmentOf}
 use Rattle.mrc_instruction.specs.Operand.{addressingOf}
@@ -70,7 +70,7 @@ module _ (c : Account) where
     pub whole : (x : List ℕ) → lengthBy (c .extra) (l ++ x) ≡ length l
     pub told : (x : List ℕ) → verdictBy (c .bar) (l ++ x) ≡ read
 
-  abbrev pub Walk : List ℕ → Reading Tail → Type 0
+  abbrev pub Walk : List ℕ → Reader Tail → Type 0
   Walk = Along Waits RefusedBy ReadBy
 
 -- a ModRM and its displacement, under any claims that hold where fewer bytes are read than they have

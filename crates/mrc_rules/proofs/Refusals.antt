@@ -13,7 +13,7 @@ use lib.Seq.{getD-drop, drop-append-seam}
 use Rattle.mrc_instruction.specs.declared.errors.Refusal.{Refusal}
 use Rattle.mrc_instruction.specs.declared.instruction.OperandSet.{OperandSet}
 use Rattle.mrc_instruction.specs.Values.{carrying}
-use Rattle.mrc_instruction.specs.Reading.{Outcome, got, stopped, takenBy}
+use Rattle.mrc_instruction.specs.Reader.{Outcome, got, stopped, takenBy}
 use Rattle.mrc_rules.specs.declared.Answer.{Answer}
 use Rattle.mrc_rules.specs.Answer.{valuesOf}
 use Rattle.mrc_rules.specs.Forms.{Tail}

@@ -18,10 +18,10 @@ use Rattle.mrc_instruction.specs.declared.instruction.OperandSet.{OperandSet}
 use Rattle.mrc_instruction.specs.declared.operation.Operation.{Operation}
 use Rattle.mrc_instruction.specs.declared.operation.Operation.the-variants.{ADD, OR, ADC, SBB, AND, SUB, XOR, CMP, ROL, ROR, RCL, RCR, SHL, SHR, SAR, NOT, NEG, MUL, IMUL, DIV, IDIV, INC, DEC, CALL, JMP, PUSH, MOV, POP}
 use Rattle.mrc_instruction.specs.Errors.{numberOf, byteOf}
-use Rattle.mrc_instruction.specs.Reading.{Reading, done, refuse, _>>=_, aByte, aWord}
+use Rattle.mrc_instruction.specs.Reader.{Reader, done, refuse, _>>=_, aByte, aWord}
 use Rattle.mrc_instruction.specs.Mrrm.{ModRM, aModRM, regField}
 use Rattle.mrc_instruction.specs.Instruction.{plain}
-use Rattle.mrc_rules.specs.Forms.{Tail, Row, rest, one, two, register, acc, anImmediate, aDisplacement, rm, arithmetic, shift, incOrDec, unaryBy, bare, prefix, invalid, rmReg, regRm, accImmediate, onSegment, onRegister, jump, groupImmediate, groupByteToWord, popRm, rmSegment, segmentRm, exchange, far, accDirect, directAcc, registerImmediate, shiftImmediate, shiftOne, shiftCl, onImmediate, moveImmediate, escape, inPort, outPort, inDx, outDx, unary, incDec}
+use Rattle.mrc_rules.specs.Forms.{Tail, Row, rest, one, two, register, acc, anImmediate, aDisplacement, rm, arithmetic, shift, groupFEOperation, groupF6By, bare, prefix, invalid, rmReg, regRm, immediateToAccumulator, onSegment, onRegister, onDisplacement, group80, group83, pop, rmSegment, segmentRm, exchange, far, accDirect, directAcc, registerAndImmediate, shiftByImmediate, shiftByOne, shiftByCl, onImmediate, groupC6, escape, inPort, outPort, inDx, outDx, groupF6, groupFE}
 use Rattle.mrc_rules.specs.Operands.{RM, SEGREG, IMMED, REL, ZERO16, Places, only, _⟵_, test, operandAt, operandsAt}
 use Rattle.mrc_rules.specs.Operations.{Mnemonic, the, byReg, nameAt}
 use Rattle.mrc_rules.specs.Operations as op
@@ -52,7 +52,7 @@ arithmetic-named = by-list (ADD ∷ OR ∷ ADC ∷ SBB ∷ AND ∷ SUB ∷ XOR �
 shift-named : Named (byReg op.shifts) (λ m. shift (regField m))
 shift-named = by-list (ROL ∷ ROR ∷ RCL ∷ RCR ∷ SHL ∷ SHR ∷ SHL ∷ SAR ∷ []) SAR refl
 
-transfer-named : Named (byReg op.transfers) (λ m. incOrDec (regField m))
+transfer-named : Named (byReg op.transfers) (λ m. groupFEOperation (regField m))
 transfer-named = by-list (INC ∷ DEC ∷ CALL ∷ CALL ∷ JMP ∷ JMP ∷ PUSH ∷ PUSH ∷ []) PUSH refl
 
 -- the length of a ModRM and n bytes behind it, and that more are asked for before they are read
@@ -82,7 +82,7 @@ Nowhere l = Unit {0}
 
 module _ (opcode : ℕ) where
   -- a ModRM, and what is done with it
-  after-modrm : (q : Places) (name : Mnemonic) (bar : Bar) (n : ℕ) (f : ModRM → Reading Tail)
+  after-modrm : (q : Places) (name : Mnemonic) (bar : Bar) (n : ℕ) (f : ModRM → Reader Tail)
       → ((m : ModRM) (l : List ℕ) → Modrm m l → Walk (account q name (modRM n) bar) l (f m))
       → Walk (account q name (modRM n) bar) (opcode ∷ []) (aModRM >>= f)
   after-modrm q name bar n f h =
@@ -156,9 +156,9 @@ module _ (opcode : ℕ) where
 -- reg is 0, 1 or more, at F6 and F7
 module _ (size : OperandSize) (m : ModRM) (l : List ℕ) (s : Modrm m l) where
   abbrev Unary : Account
-  Unary = account (test (RM size) (IMMED size)) (byReg op.unary) (tested (bytesIn size)) grouped
+  Unary = account (test (RM size) (IMMED size)) (byReg op.groupF6) (tested (bytesIn size)) grouped
 
-  unary-along : (n : ℕ) → regField m ≡ n → Walk Unary l (unaryBy n (rm m size) size)
+  unary-along : (n : ℕ) → regField m ≡ n → Walk Unary l (groupF6By n (rm m size) size)
   unary-along zero e =
       along-bind (Waits Unary) (RefusedBy Unary) _ _ l (anImmediate size) _
       (immediate-along (Waits Unary) (RefusedBy Unary) (Says m) l (s .0) size
@@ -188,14 +188,14 @@ row-along opcode prefix = record { whole = λ x. refl; told = λ x. refl }
 row-along opcode invalid = record { whole = λ x. refl; told = λ x. refl }
 row-along opcode (rmReg o size) = modrm-alone opcode (accountOf (rmReg o size) .places) (the o) _ _ (the-one o) (λ m l s. ap₂ OperandSet.DestinationAndSource (s .by-rm size) (s .by-reg size))
 row-along opcode (regRm o size) = modrm-alone opcode (accountOf (regRm o size) .places) (the o) _ _ (the-one o) (λ m l s. ap₂ OperandSet.DestinationAndSource (s .by-reg size) (s .by-rm size))
-row-along opcode (accImmediate o size) =
-    after-immediate opcode (accountOf (accImmediate o size) .places) o size _ (λ i l e. ap (OperandSet.DestinationAndSource (acc size)) e)
+row-along opcode (immediateToAccumulator o size) =
+    after-immediate opcode (accountOf (immediateToAccumulator o size) .places) o size _ (λ i l e. ap (OperandSet.DestinationAndSource (acc size)) e)
 row-along opcode (onSegment o s) = record { operands = refl; operation = λ x. refl; whole = λ x. refl; told = λ x. refl }
 row-along opcode (onRegister o r) = record { operands = refl; operation = λ x. refl; whole = λ x. refl; told = λ x. refl }
-row-along opcode (jump o size) = after-displacement opcode o size
-row-along opcode (groupImmediate size) = modrm-immediate opcode size size (byReg op.arithmetic) _ arithmetic-named
-row-along opcode groupByteToWord = modrm-widened opcode (byReg op.arithmetic) _ arithmetic-named
-row-along opcode popRm =
+row-along opcode (onDisplacement o size) = after-displacement opcode o size
+row-along opcode (group80 size) = modrm-immediate opcode size size (byReg op.arithmetic) _ arithmetic-named
+row-along opcode group83 = modrm-widened opcode (byReg op.arithmetic) _ arithmetic-named
+row-along opcode pop =
     modrm-tested opcode (only (RM Word)) POP popped _ (λ m. eqb (regField m) 0) (λ m. Refusal.InvalidModRegRMEncoding (m .byte)) (λ m l s. ap OperandSet.Destination (s .by-rm Word)) (λ m l s. rw (s .second) refl)
 row-along opcode rmSegment =
     modrm-tested opcode (RM Word ⟵ SEGREG) MOV segment _ (λ m. ltb (regField m) 4) (λ m. Refusal.InvalidSegmentEncoding (regField m))
@@ -222,20 +222,20 @@ row-along opcode (accDirect size) =
     (omega arith, λ low. (omega arith, λ high. record { operands = refl; operation = λ x. refl; whole = λ x. refl; told = λ x. refl }))
 row-along opcode (directAcc size) =
     (omega arith, λ low. (omega arith, λ high. record { operands = refl; operation = λ x. refl; whole = λ x. refl; told = λ x. refl }))
-row-along opcode (registerImmediate r size) =
-    after-immediate opcode (accountOf (registerImmediate r size) .places) MOV size _ (λ i l e. ap (OperandSet.DestinationAndSource (register r size)) e)
-row-along opcode (shiftImmediate size) = modrm-immediate opcode size Byte (byReg op.shifts) _ shift-named
-row-along opcode (shiftOne size) = modrm-alone opcode (accountOf (shiftOne size) .places) (byReg op.shifts) _ _ shift-named (λ m l s. ap₂ OperandSet.DestinationAndSource (s .by-rm size) refl)
-row-along opcode (shiftCl size) = modrm-alone opcode (accountOf (shiftCl size) .places) (byReg op.shifts) _ _ shift-named (λ m l s. ap₂ OperandSet.DestinationAndSource (s .by-rm size) refl)
+row-along opcode (registerAndImmediate r size) =
+    after-immediate opcode (accountOf (registerAndImmediate r size) .places) MOV size _ (λ i l e. ap (OperandSet.DestinationAndSource (register r size)) e)
+row-along opcode (shiftByImmediate size) = modrm-immediate opcode size Byte (byReg op.shifts) _ shift-named
+row-along opcode (shiftByOne size) = modrm-alone opcode (accountOf (shiftByOne size) .places) (byReg op.shifts) _ _ shift-named (λ m l s. ap₂ OperandSet.DestinationAndSource (s .by-rm size) refl)
+row-along opcode (shiftByCl size) = modrm-alone opcode (accountOf (shiftByCl size) .places) (byReg op.shifts) _ _ shift-named (λ m l s. ap₂ OperandSet.DestinationAndSource (s .by-rm size) refl)
 row-along opcode (onImmediate o size) = after-immediate opcode (accountOf (onImmediate o size) .places) o size _ (λ i l e. ap OperandSet.Destination e)
-row-along opcode (moveImmediate size) = modrm-immediate opcode size size (the MOV) (λ m. MOV) (the-one MOV)
+row-along opcode (groupC6 size) = modrm-immediate opcode size size (the MOV) (λ m. MOV) (the-one MOV)
 row-along opcode escape = (omega arith, λ b. record { operands = refl; operation = λ x. refl; whole = λ x. refl; told = λ x. refl })
 row-along opcode (inPort size) = (omega arith, λ b. record { operands = refl; operation = λ x. refl; whole = λ x. refl; told = λ x. refl })
 row-along opcode (outPort size) = (omega arith, λ b. record { operands = refl; operation = λ x. refl; whole = λ x. refl; told = λ x. refl })
 row-along opcode (inDx size) = record { operands = refl; operation = λ x. refl; whole = λ x. refl; told = λ x. refl }
 row-along opcode (outDx size) = record { operands = refl; operation = λ x. refl; whole = λ x. refl; told = λ x. refl }
-row-along opcode (unary size) =
-    let c = accountOf (unary size) in
+row-along opcode (groupF6 size) =
+    let c = accountOf (groupF6 size) in
     along-bind (Waits c) (RefusedBy c) _ _ (opcode ∷ []) aModRM _ (modrm-along (Waits c) (RefusedBy c) opcode (λ l k. omega arith))
     (λ m l s. unary-along size m l s (regField m) refl)
-row-along opcode (incDec size) = modrm-alone opcode (only (RM size)) (byReg op.transfers) _ _ transfer-named (λ m l s. ap OperandSet.Destination (s .by-rm size))
+row-along opcode (groupFE size) = modrm-alone opcode (only (RM size)) (byReg op.transfers) _ _ transfer-named (λ m l s. ap OperandSet.Destination (s .by-rm size))

@@ -14,8 +14,8 @@ use lib.Seq.{length-take-le}
 use Rattle.mrc_instruction.specs.declared.errors.Refusal.{Refusal}
 use Rattle.mrc_instruction.specs.declared.instruction.OperandSet.{OperandSet}
 use Rattle.mrc_instruction.specs.Errors.{numberOf, byteOf}
-use Rattle.mrc_instruction.specs.Reading.{Outcome, got, stopped, takenBy, more, readFrom}
-use Rattle.mrc_instruction.proofs.Then.{taken-le}
+use Rattle.mrc_instruction.specs.Reader.{Outcome, got, stopped, takenBy, more, readFrom}
+use Rattle.mrc_instruction.proofs.Sequence.{taken-le}
 use Rattle.mrc_rules.specs.Forms.{Tail, rest}
 use Rattle.mrc_rules.specs.Table.{rowOf}
 use Rattle.mrc_rules.specs.Decode.{tail, rules}

@@ -19,7 +19,7 @@ use Rattle.mrc_instruction.specs.declared.operation.Operation.{Operation}
 use Rattle.mrc_instruction.specs.declared.operation.Operation.the-variants.{ADC, ADD, AND, CALL, CMP, DEC, DIV, ESC, IDIV, IMUL, IN, INC, JMP, MOV, MUL, NEG, NOT, OR, OUT, POP, PUSH, RCL, RCR, ROL, ROR, SAR, SBB, SHL, SHR, SUB, TEST, XCHG, XOR}
 use Rattle.mrc_instruction.specs.Register.{segmentOf}
 use Rattle.mrc_instruction.specs.Signed.{signedByte, signedWord}
-use Rattle.mrc_instruction.specs.Reading.{Reading, done, refuse, _>>=_, aByte, aWord}
+use Rattle.mrc_instruction.specs.Reader.{Reader, done, refuse, _>>=_, aByte, aWord}
 use Rattle.mrc_instruction.specs.Mrrm.{ModRM, regField, aModRM, operandOf}
 use Rattle.mrc_instruction.specs.Instruction.{plain}
 
@@ -27,23 +27,23 @@ pub data Row : Type 0 where
   bare : Operation → Row
   prefix invalid : Row
   rmReg regRm : Operation → OperandSize → Row
-  accImmediate : Operation → OperandSize → Row
+  immediateToAccumulator : Operation → OperandSize → Row
   onSegment : Operation → Segment → Row
   onRegister : Operation → RegisterEncoding → Row
-  jump : Operation → OperandSize → Row
-  groupImmediate : OperandSize → Row
-  groupByteToWord popRm : Row
+  onDisplacement : Operation → OperandSize → Row
+  group80 : OperandSize → Row
+  group83 pop : Row
   rmSegment segmentRm : Row
   exchange : RegisterEncoding → Row
   far : Operation → Row
   accDirect directAcc : OperandSize → Row
-  registerImmediate : RegisterEncoding → OperandSize → Row
-  shiftImmediate shiftOne shiftCl : OperandSize → Row
+  registerAndImmediate : RegisterEncoding → OperandSize → Row
+  shiftByImmediate shiftByOne shiftByCl : OperandSize → Row
   onImmediate : Operation → OperandSize → Row
-  moveImmediate : OperandSize → Row
+  groupC6 : OperandSize → Row
   escape : Row
   inPort outPort inDx outDx : OperandSize → Row
-  unary incDec : OperandSize → Row
+  groupF6 groupFE : OperandSize → Row
 
 -- what the bytes behind the prefixes come to
 abbrev pub Tail : Type 0
@@ -59,11 +59,11 @@ abbrev pub two : Operation → Operand → Operand → Tail
 two op destination source = plain op (OperandSet.DestinationAndSource destination source)
 
 -- an immediate and a displacement of a size
-abbrev pub anImmediate : OperandSize → Reading Immediate
+abbrev pub anImmediate : OperandSize → Reader Immediate
 anImmediate Byte = aByte >>= λ b. done (Immediate.Byte b)
 anImmediate Word = aWord >>= λ w. done (Immediate.Word w)
 
-abbrev pub aDisplacement : OperandSize → Reading Displacement
+abbrev pub aDisplacement : OperandSize → Reader Displacement
 aDisplacement Byte = aByte >>= λ b. done (Displacement.Byte (signedByte b))
 aDisplacement Word = aWord >>= λ w. done (Displacement.Word (signedWord w))
 
@@ -90,40 +90,40 @@ arithmetic n = getD (ADD ∷ OR ∷ ADC ∷ SBB ∷ AND ∷ SUB ∷ XOR ∷ CMP 
 abbrev pub shift : ℕ → Operation
 shift n = getD (ROL ∷ ROR ∷ RCL ∷ RCR ∷ SHL ∷ SHR ∷ SHL ∷ SAR ∷ []) n SAR
 
-abbrev pub incOrDec : ℕ → Operation
-incOrDec n = getD (INC ∷ DEC ∷ CALL ∷ CALL ∷ JMP ∷ JMP ∷ PUSH ∷ PUSH ∷ []) n PUSH
+abbrev pub groupFEOperation : ℕ → Operation
+groupFEOperation n = getD (INC ∷ DEC ∷ CALL ∷ CALL ∷ JMP ∷ JMP ∷ PUSH ∷ PUSH ∷ []) n PUSH
 
 -- "F6, F7 by reg: TEST with immediate, refused, NOT NEG MUL IMUL DIV IDIV"
-abbrev pub unaryOperation : ℕ → Operation
-unaryOperation n = getD (NOT ∷ NEG ∷ MUL ∷ IMUL ∷ DIV ∷ IDIV ∷ []) n IDIV
+abbrev pub groupF6Operation : ℕ → Operation
+groupF6Operation n = getD (NOT ∷ NEG ∷ MUL ∷ IMUL ∷ DIV ∷ IDIV ∷ []) n IDIV
 
-abbrev pub unaryBy : ℕ → Operand → OperandSize → Reading Tail
-unaryBy zero destination size = anImmediate size >>= λ i. done (two TEST destination (Operand.Immediate i))
-unaryBy (suc zero) destination size = refuse (Refusal.InvalidOpCode 1)
-unaryBy (suc (suc n)) destination size = done (one (unaryOperation n) destination)
+abbrev pub groupF6By : ℕ → Operand → OperandSize → Reader Tail
+groupF6By zero destination size = anImmediate size >>= λ i. done (two TEST destination (Operand.Immediate i))
+groupF6By (suc zero) destination size = refuse (Refusal.InvalidOpCode 1)
+groupF6By (suc (suc n)) destination size = done (one (groupF6Operation n) destination)
 
 -- what follows an opcode, by its row
-abbrev pub rest : ℕ → Row → Reading Tail
+abbrev pub rest : ℕ → Row → Reader Tail
 rest opcode (bare op) = done (none op)
 rest opcode prefix = refuse (Refusal.InvalidOpCode opcode)
 rest opcode invalid = refuse (Refusal.InvalidOpCode opcode)
 rest opcode (rmReg op size) = aModRM >>= λ m. done (two op (rm m size) (reg m size))
 rest opcode (regRm op size) = aModRM >>= λ m. done (two op (reg m size) (rm m size))
-rest opcode (accImmediate op size) = anImmediate size >>= λ i. done (two op (acc size) (Operand.Immediate i))
+rest opcode (immediateToAccumulator op size) = anImmediate size >>= λ i. done (two op (acc size) (Operand.Immediate i))
 rest opcode (onSegment op s) = done (one op (Operand.Segment s))
 rest opcode (onRegister op r) = done (one op (register r Word))
-rest opcode (jump op size) = aDisplacement size >>= λ d. done (one op (Operand.Displacement d))
-rest opcode (groupImmediate size) = do
+rest opcode (onDisplacement op size) = aDisplacement size >>= λ d. done (one op (Operand.Displacement d))
+rest opcode (group80 size) = do
   m ← aModRM
   i ← anImmediate size
   done (two (arithmetic (regField m)) (rm m size) (Operand.Immediate i))
 -- "83: word rm, one byte widened with zeros"
-rest opcode groupByteToWord = do
+rest opcode group83 = do
   m ← aModRM
   b ← aByte
   done (two (arithmetic (regField m)) (rm m Word) (Operand.Immediate (Immediate.Word b)))
 -- "opcode 8F, reg not 0"
-rest opcode popRm = aModRM >>= λ m. cond (eqb (regField m) 0) (done (one POP (rm m Word))) (refuse (Refusal.InvalidModRegRMEncoding (m .byte)))
+rest opcode pop = aModRM >>= λ m. cond (eqb (regField m) 0) (done (one POP (rm m Word))) (refuse (Refusal.InvalidModRegRMEncoding (m .byte)))
 -- "8C and 8E with reg 4 to 7"
 rest opcode rmSegment = do
   m ← aModRM
@@ -143,15 +143,15 @@ rest opcode (far op) = do
   done (one op (Operand.SegmentAndOffset (record { segment = segment; offset = offset })))
 rest opcode (accDirect size) = aWord >>= λ w. done (two MOV (acc size) (Operand.Direct Segment.DS size w))
 rest opcode (directAcc size) = aWord >>= λ w. done (two MOV (Operand.Direct Segment.DS size w) (acc size))
-rest opcode (registerImmediate r size) = anImmediate size >>= λ i. done (two MOV (register r size) (Operand.Immediate i))
-rest opcode (shiftImmediate size) = do
+rest opcode (registerAndImmediate r size) = anImmediate size >>= λ i. done (two MOV (register r size) (Operand.Immediate i))
+rest opcode (shiftByImmediate size) = do
   m ← aModRM
   i ← anImmediate Byte
   done (two (shift (regField m)) (rm m size) (Operand.Immediate i))
-rest opcode (shiftOne size) = aModRM >>= λ m. done (two (shift (regField m)) (rm m size) (Operand.Immediate (Immediate.Byte 1)))
-rest opcode (shiftCl size) = aModRM >>= λ m. done (two (shift (regField m)) (rm m size) (register RegisterEncoding.ClCx size))
+rest opcode (shiftByOne size) = aModRM >>= λ m. done (two (shift (regField m)) (rm m size) (Operand.Immediate (Immediate.Byte 1)))
+rest opcode (shiftByCl size) = aModRM >>= λ m. done (two (shift (regField m)) (rm m size) (register RegisterEncoding.ClCx size))
 rest opcode (onImmediate op size) = anImmediate size >>= λ i. done (one op (Operand.Immediate i))
-rest opcode (moveImmediate size) = do
+rest opcode (groupC6 size) = do
   m ← aModRM
   i ← anImmediate size
   done (two MOV (rm m size) (Operand.Immediate i))
@@ -161,5 +161,5 @@ rest opcode (inPort size) = anImmediate Byte >>= λ i. done (two IN (acc size) (
 rest opcode (outPort size) = anImmediate Byte >>= λ i. done (two OUT (Operand.Immediate i) (acc size))
 rest opcode (inDx size) = done (two IN (acc size) dx)
 rest opcode (outDx size) = done (two OUT dx (acc size))
-rest opcode (unary size) = aModRM >>= λ m. unaryBy (regField m) (rm m size) size
-rest opcode (incDec size) = aModRM >>= λ m. done (one (incOrDec (regField m)) (rm m size))
+rest opcode (groupF6 size) = aModRM >>= λ m. groupF6By (regField m) (rm m size) size
+rest opcode (groupFE size) = aModRM >>= λ m. done (one (groupFEOperation (regField m)) (rm m size))

@@ -8,4 +8,4 @@ pub mod Operands
 pub mod Operations
 pub mod Lengths
 pub mod Refusals
-pub mod Readings
+pub mod Cases

@@ -21,8 +21,8 @@ arithmetic = some ADD ∷ some OR ∷ some ADC ∷ some SBB ∷ some AND ∷ som
 abbrev pub shifts : List (Option Operation)
 shifts = some ROL ∷ some ROR ∷ some RCL ∷ some RCR ∷ some SHL ∷ some SHR ∷ some SHL ∷ some SAR ∷ []
 
-abbrev pub unary : List (Option Operation)
-unary = some TEST ∷ none ∷ some NOT ∷ some NEG ∷ some MUL ∷ some IMUL ∷ some DIV ∷ some IDIV ∷ []
+abbrev pub groupF6 : List (Option Operation)
+groupF6 = some TEST ∷ none ∷ some NOT ∷ some NEG ∷ some MUL ∷ some IMUL ∷ some DIV ∷ some IDIV ∷ []
 
 abbrev pub transfers : List (Option Operation)
 transfers = some INC ∷ some DEC ∷ some CALL ∷ some CALL ∷ some JMP ∷ some JMP ∷ some PUSH ∷ some PUSH ∷ []
@@ -59,7 +59,7 @@ mnemonics =
     ++ (the ESC ∷ the ESC ∷ the ESC ∷ the ESC ∷ the ESC ∷ the ESC ∷ the ESC ∷ the ESC ∷ [])  -- D8
     ++ (the LOOPNZ ∷ the LOOPZ ∷ the LOOP ∷ the JCXZ ∷ the IN ∷ the IN ∷ the OUT ∷ the OUT ∷ [])  -- E0
     ++ (the CALL ∷ the JMP ∷ the JMP ∷ the JMP ∷ the IN ∷ the IN ∷ the OUT ∷ the OUT ∷ [])  -- E8
-    ++ (the LOCK ∷ the INT1 ∷ nothing ∷ nothing ∷ the HLT ∷ the CMC ∷ byReg unary ∷ byReg unary ∷ [])  -- F0
+    ++ (the LOCK ∷ the INT1 ∷ nothing ∷ nothing ∷ the HLT ∷ the CMC ∷ byReg groupF6 ∷ byReg groupF6 ∷ [])  -- F0
     ++ (the CLC ∷ the STC ∷ the CLI ∷ the STI ∷ the CLD ∷ the STD ∷ byReg transfers ∷ byReg transfers ∷ [])  -- F8
 
 -- the operation that an instruction's bytes name, from the opcode on

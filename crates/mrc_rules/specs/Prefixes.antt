@@ -56,7 +56,7 @@ inSegment s (Operand.Immediate i) = Operand.Immediate i
 inSegment s (Operand.Displacement d) = Operand.Displacement d
 inSegment s (Operand.SegmentAndOffset a) = Operand.SegmentAndOffset a
 
--- the reading or the refusal, the counts aside
+-- the instruction or the refusal, the counts aside
 pub data Result : Type 0 where
   reads : Instruction → Result
   refuses : Refusal → Result

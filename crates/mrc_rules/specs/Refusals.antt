@@ -26,8 +26,8 @@ isPop b = eqb b 0x8F
 abbrev pub isSegmentMove : ℕ → Bool
 isSegmentMove b = eqb b 0x8C || eqb b 0x8E
 
-abbrev pub isUnary : ℕ → Bool
-isUnary b = eqb b 0xF6 || eqb b 0xF7
+abbrev pub isGroupF6 : ℕ → Bool
+isGroupF6 b = eqb b 0xF6 || eqb b 0xF7
 
 -- read, or refused with a number and a byte
 pub data Verdict : Type 0 where
@@ -39,7 +39,7 @@ abbrev pub byOpcode : List ℕ → Verdict
 byOpcode l =
     cond (isUnread (byteAt l 0)) (refused 6 (byteAt l 0))
     (cond (isPop (byteAt l 0)) (cond (eqb (regAt l) 0) read (refused 5 (byteAt l 1)))
-    (cond (isUnary (byteAt l 0)) (cond (eqb (regAt l) 1) (refused 6 0x01) read)
+    (cond (isGroupF6 (byteAt l 0)) (cond (eqb (regAt l) 1) (refused 6 0x01) read)
     (cond (isSegmentMove (byteAt l 0)) (cond (ltb (regAt l) 4) read (refused 8 (regAt l)))
     read)))
 

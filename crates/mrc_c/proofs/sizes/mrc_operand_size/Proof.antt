@@ -1,7 +1,7 @@
 -- Each arm knows the kind, at which the list of sizes computes; past the other arms it has no size.
 -- Assumes nothing.
 use mathlib.Core.Path.{sym, ap, _∙_}
-use Rattle.mrc_instruction.proofs.Past.{past}
+use Rattle.mrc_instruction.proofs.LastArm.{past}
 use Rattle.mrc_c.specs.Sizes.{sizeNumber}
 use Rattle.mrc_c.proofs.SizeKept.{beyond}
 use Rattle.mrc_c.proofs.sizes.mrc_operand_size.Statement.{statement}

@@ -7,8 +7,8 @@ use lib.ListN.{getD, drop}
 use borrow.Author.Needs.{needs}
 use borrow.Fn.Kinds.{In}
 use borrow.Fn.PlainCycle.{Measures, is, falls, and}
-use Rattle.mrc_instruction.specs.Reading.{readFrom}
-use Rattle.mrc_decoder.specs.Form.{modRMReading}
+use Rattle.mrc_instruction.specs.Reader.{readFrom}
+use Rattle.mrc_decoder.specs.Form.{modRMReader}
 use Rattle.mrc_decoder.proofs.decode.decode_instruction.Reads as decode-instruction
 use Rattle.mrc_decoder.proofs.decode.decode_instruction.Kinds as decode-instruction-kinds
 use Rattle.mrc_decoder.proofs.decode.+decode_instruction.Lts-decode_instruction as decode-instruction-lts
@@ -25,11 +25,11 @@ use Rattle.mrc_forms.proofs.forms.invalid.Reads as invalid-reads
 use Rattle.mrc_forms.proofs.forms.on_displacement.Reads as on-displacement-reads
 use Rattle.mrc_forms.proofs.forms.on_immediate.Reads as on-immediate-reads
 use Rattle.mrc_forms.proofs.forms.on_register.Reads as on-register-reads
-use Rattle.mrc_pairs.proofs.common.immediate_to_accumulator.Reads as immediate-to-accumulator-reads
-use Rattle.mrc_pairs.proofs.pairs.accumulator_and_direct.Reads as accumulator-and-direct-reads
-use Rattle.mrc_pairs.proofs.pairs.in_port.Reads as in-port-reads
-use Rattle.mrc_pairs.proofs.pairs.out_port.Reads as out-port-reads
-use Rattle.mrc_pairs.proofs.pairs.register_and_immediate.Reads as register-and-immediate-reads
+use Rattle.mrc_directed.proofs.common.immediate_to_accumulator.Reads as immediate-to-accumulator-reads
+use Rattle.mrc_directed.proofs.pairs.accumulator_and_direct.Reads as accumulator-and-direct-reads
+use Rattle.mrc_directed.proofs.pairs.in_port.Reads as in-port-reads
+use Rattle.mrc_directed.proofs.pairs.out_port.Reads as out-port-reads
+use Rattle.mrc_directed.proofs.pairs.register_and_immediate.Reads as register-and-immediate-reads
 use Rattle.mrc_decoder.proofs.ModRM.{answers-behind, ends-behind}
 use Rattle.mrc_decoder.proofs.Decoding.{past-end, alone-anywhere, no-prefix, no-prefix-modrm, override-over, repeat-over, override, repeat, small}
 use Rattle.mrc_decoder.proofs.decode.+decode_instruction.{statement}
@@ -266,19 +266,19 @@ decode-instruction-enum-known-instruction : (t : ℕ) → decode-instruction-lts
 decode-instruction-enum-known-instruction t c = search needs
 
 decode-instruction-sub-t48 : (t : ℕ) → decode-instruction-lts.Need-sub-t48 (claims t) (decode-instruction-at t) decode-instruction.Post
-decode-instruction-sub-t48 t c = ends-behind (c .before .before .before .before .before .before .before .before .before .before .before .args .at) (readFrom (modRMReading (c .before .before .before .before .before .form2 .given .0 .0) (c .before .before .before .before .before .form2 .given .0 .1 .0) (getD (c .before .before .before .before .before .before .before .before .before .before .before .args .s .now) (c .before .before .before .before .before .before .before .before .before .before .before .args .at) 0)) (drop (c .before .before .before .before .before .before .before .before .before .before .before .args .at + 1) (c .before .before .before .before .before .before .before .before .before .before .before .args .s .now))) _ (sym (c .before .instruction .given .1) ∙ c .before .before .before .with-modrm .ensures)
+decode-instruction-sub-t48 t c = ends-behind (c .before .before .before .before .before .before .before .before .before .before .before .args .at) (readFrom (modRMReader (c .before .before .before .before .before .form2 .given .0 .0) (c .before .before .before .before .before .form2 .given .0 .1 .0) (getD (c .before .before .before .before .before .before .before .before .before .before .before .args .s .now) (c .before .before .before .before .before .before .before .before .before .before .before .args .at) 0)) (drop (c .before .before .before .before .before .before .before .before .before .before .before .args .at + 1) (c .before .before .before .before .before .before .before .before .before .before .before .args .s .now))) _ (sym (c .before .instruction .given .1) ∙ c .before .before .before .with-modrm .ensures)
 
 decode-instruction-returns-18 : (t : ℕ) → decode-instruction-lts.Need-returns-18 (claims t) (decode-instruction-at t) decode-instruction.Post
-decode-instruction-returns-18 t c = no-prefix-modrm (c .before .before .before .before .before .before .before .before .before .before .before .args .s .now) (c .before .before .before .before .before .before .before .before .before .before .before .args .at) (c .before .before .before .before .before .before .before .before .before .before .before .args .budget) (c .before .before .before .before .before .before .before .before .before .if1 .left) (c .before .before .before .before .before .form2 .given .0 .0) (c .before .before .before .before .before .form2 .given .0 .1 .0) (rw (c .before .before .before .before .before .form2 .given .1) at (c .before .before .before .before .before .before .before .form-of .ensures)) (answers-behind (c .before .before .before .before .before .before .before .before .before .before .before .args .at) (readFrom (modRMReading (c .before .before .before .before .before .form2 .given .0 .0) (c .before .before .before .before .before .form2 .given .0 .1 .0) (getD (c .before .before .before .before .before .before .before .before .before .before .before .args .s .now) (c .before .before .before .before .before .before .before .before .before .before .before .args .at) 0)) (drop (c .before .before .before .before .before .before .before .before .before .before .before .args .at + 1) (c .before .before .before .before .before .before .before .before .before .before .before .args .s .now))) _ (sym (c .before .instruction .given .1) ∙ c .before .before .before .with-modrm .ensures))
+decode-instruction-returns-18 t c = no-prefix-modrm (c .before .before .before .before .before .before .before .before .before .before .before .args .s .now) (c .before .before .before .before .before .before .before .before .before .before .before .args .at) (c .before .before .before .before .before .before .before .before .before .before .before .args .budget) (c .before .before .before .before .before .before .before .before .before .if1 .left) (c .before .before .before .before .before .form2 .given .0 .0) (c .before .before .before .before .before .form2 .given .0 .1 .0) (rw (c .before .before .before .before .before .form2 .given .1) at (c .before .before .before .before .before .before .before .form-of .ensures)) (answers-behind (c .before .before .before .before .before .before .before .before .before .before .before .args .at) (readFrom (modRMReader (c .before .before .before .before .before .form2 .given .0 .0) (c .before .before .before .before .before .form2 .given .0 .1 .0) (getD (c .before .before .before .before .before .before .before .before .before .before .before .args .s .now) (c .before .before .before .before .before .before .before .before .before .before .before .args .at) 0)) (drop (c .before .before .before .before .before .before .before .before .before .before .before .args .at + 1) (c .before .before .before .before .before .before .before .before .before .before .before .args .s .now))) _ (sym (c .before .instruction .given .1) ∙ c .before .before .before .with-modrm .ensures))
 
 decode-instruction-enum-known-refusal : (t : ℕ) → decode-instruction-lts.Need-enum-known-refusal (claims t) (decode-instruction-at t) decode-instruction.Post
 decode-instruction-enum-known-refusal t c = search needs
 
 decode-instruction-sub-t49 : (t : ℕ) → decode-instruction-lts.Need-sub-t49 (claims t) (decode-instruction-at t) decode-instruction.Post
-decode-instruction-sub-t49 t c = ends-behind (c .before .before .before .before .before .before .before .before .before .before .before .args .at) (readFrom (modRMReading (c .before .before .before .before .before .form2 .given .0 .0) (c .before .before .before .before .before .form2 .given .0 .1 .0) (getD (c .before .before .before .before .before .before .before .before .before .before .before .args .s .now) (c .before .before .before .before .before .before .before .before .before .before .before .args .at) 0)) (drop (c .before .before .before .before .before .before .before .before .before .before .before .args .at + 1) (c .before .before .before .before .before .before .before .before .before .before .before .args .s .now))) _ (sym (c .before .refusal .given .1) ∙ c .before .before .before .with-modrm .ensures)
+decode-instruction-sub-t49 t c = ends-behind (c .before .before .before .before .before .before .before .before .before .before .before .args .at) (readFrom (modRMReader (c .before .before .before .before .before .form2 .given .0 .0) (c .before .before .before .before .before .form2 .given .0 .1 .0) (getD (c .before .before .before .before .before .before .before .before .before .before .before .args .s .now) (c .before .before .before .before .before .before .before .before .before .before .before .args .at) 0)) (drop (c .before .before .before .before .before .before .before .before .before .before .before .args .at + 1) (c .before .before .before .before .before .before .before .before .before .before .before .args .s .now))) _ (sym (c .before .refusal .given .1) ∙ c .before .before .before .with-modrm .ensures)
 
 decode-instruction-returns-19 : (t : ℕ) → decode-instruction-lts.Need-returns-19 (claims t) (decode-instruction-at t) decode-instruction.Post
-decode-instruction-returns-19 t c = no-prefix-modrm (c .before .before .before .before .before .before .before .before .before .before .before .args .s .now) (c .before .before .before .before .before .before .before .before .before .before .before .args .at) (c .before .before .before .before .before .before .before .before .before .before .before .args .budget) (c .before .before .before .before .before .before .before .before .before .if1 .left) (c .before .before .before .before .before .form2 .given .0 .0) (c .before .before .before .before .before .form2 .given .0 .1 .0) (rw (c .before .before .before .before .before .form2 .given .1) at (c .before .before .before .before .before .before .before .form-of .ensures)) (answers-behind (c .before .before .before .before .before .before .before .before .before .before .before .args .at) (readFrom (modRMReading (c .before .before .before .before .before .form2 .given .0 .0) (c .before .before .before .before .before .form2 .given .0 .1 .0) (getD (c .before .before .before .before .before .before .before .before .before .before .before .args .s .now) (c .before .before .before .before .before .before .before .before .before .before .before .args .at) 0)) (drop (c .before .before .before .before .before .before .before .before .before .before .before .args .at + 1) (c .before .before .before .before .before .before .before .before .before .before .before .args .s .now))) _ (sym (c .before .refusal .given .1) ∙ c .before .before .before .with-modrm .ensures))
+decode-instruction-returns-19 t c = no-prefix-modrm (c .before .before .before .before .before .before .before .before .before .before .before .args .s .now) (c .before .before .before .before .before .before .before .before .before .before .before .args .at) (c .before .before .before .before .before .before .before .before .before .before .before .args .budget) (c .before .before .before .before .before .before .before .before .before .if1 .left) (c .before .before .before .before .before .form2 .given .0 .0) (c .before .before .before .before .before .form2 .given .0 .1 .0) (rw (c .before .before .before .before .before .form2 .given .1) at (c .before .before .before .before .before .before .before .form-of .ensures)) (answers-behind (c .before .before .before .before .before .before .before .before .before .before .before .args .at) (readFrom (modRMReader (c .before .before .before .before .before .form2 .given .0 .0) (c .before .before .before .before .before .form2 .given .0 .1 .0) (getD (c .before .before .before .before .before .before .before .before .before .before .before .args .s .now) (c .before .before .before .before .before .before .before .before .before .before .before .args .at) 0)) (drop (c .before .before .before .before .before .before .before .before .before .before .before .args .at + 1) (c .before .before .before .before .before .before .before .before .before .before .before .args .s .now))) _ (sym (c .before .refusal .given .1) ∙ c .before .before .before .with-modrm .ensures))
 
 pub +decode-instruction-spec : {M : Type 1} → statement M
 +decode-instruction-spec = close μ-decode-instruction λ t. decode-instruction-lts.spec (claims t)

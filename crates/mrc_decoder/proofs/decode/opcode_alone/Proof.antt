@@ -7,11 +7,11 @@ use Rattle.mrc_decoder.proofs.decode.opcode_alone.Tie as tie
 enum-known-form : tie.Need-enum-known-form
 enum-known-form c = search needs
 
-no-operand-requires : tie.Need-no-operand-requires
-no-operand-requires c κs = search needs
+bare-requires : tie.Need-bare-requires
+bare-requires c κs = search needs
 
 returns : tie.Need-returns
-returns c = rw (c .before .before .form .given .1) (c .no-operand .ensures)
+returns c = rw (c .before .before .form .given .1) (c .bare .ensures)
 
 enum-known-form-2 : tie.Need-enum-known-form-2
 enum-known-form-2 c = search needs
@@ -54,7 +54,7 @@ opcode-alone-spec =
     tie.close
     (tie.spec
     enum-known-form
-    no-operand-requires
+    bare-requires
     returns
     enum-known-form-2
     on-segment-requires

@@ -27,20 +27,20 @@ returns c = then-behind (c .before .before .before .before .before .before .befo
 enum-told-2 : tie.Need-enum-told-2
 enum-told-2 c = search needs
 
-increment-requires : tie.Need-increment-requires
-increment-requires c κs = search needs
+group-fe-requires : tie.Need-group-fe-requires
+group-fe-requires c κs = search needs
 
 returns-2 : tie.Need-returns-2
-returns-2 c = then-behind (c .before .before .before .before .before .before .before .before .args .size) (c .before .before .before .before .before .before .before .before .args .s .now) (c .before .before .before .before .before .before .before .before .args .at) (modRMBehind (c .before .before .before .before .before .before .before .before .args .form) (c .before .before .before .before .before .before .before .before .args .size) (c .before .before .before .before .before .before .before .before .args .opcode)) (sym (c .before .before .before .before .operand .given .1) ∙ c .before .before .before .before .before .before .read-operand .ensures) (rw (c .before .enum-told2 .given .1, add-zero) (c .increment .ensures))
+returns-2 c = then-behind (c .before .before .before .before .before .before .before .before .args .size) (c .before .before .before .before .before .before .before .before .args .s .now) (c .before .before .before .before .before .before .before .before .args .at) (modRMBehind (c .before .before .before .before .before .before .before .before .args .form) (c .before .before .before .before .before .before .before .before .args .size) (c .before .before .before .before .before .before .before .before .args .opcode)) (sym (c .before .before .before .before .operand .given .1) ∙ c .before .before .before .before .before .before .read-operand .ensures) (rw (c .before .enum-told2 .given .1, add-zero) (c .group-fe .ensures))
 
 enum-told-3 : tie.Need-enum-told-3
 enum-told-3 c = search needs
 
-unary-requires : tie.Need-unary-requires
-unary-requires c κs = search needs
+group-f6-requires : tie.Need-group-f6-requires
+group-f6-requires c κs = search needs
 
 returns-3 : tie.Need-returns-3
-returns-3 c = then-behind (c .before .before .before .before .before .before .before .before .args .size) (c .before .before .before .before .before .before .before .before .args .s .now) (c .before .before .before .before .before .before .before .before .args .at) (modRMBehind (c .before .before .before .before .before .before .before .before .args .form) (c .before .before .before .before .before .before .before .before .args .size) (c .before .before .before .before .before .before .before .before .args .opcode)) (sym (c .before .before .before .before .operand .given .1) ∙ c .before .before .before .before .before .before .read-operand .ensures) (rw (c .before .enum-told3 .given .1) (c .unary .ensures))
+returns-3 c = then-behind (c .before .before .before .before .before .before .before .before .args .size) (c .before .before .before .before .before .before .before .before .args .s .now) (c .before .before .before .before .before .before .before .before .args .at) (modRMBehind (c .before .before .before .before .before .before .before .before .args .form) (c .before .before .before .before .before .before .before .before .args .size) (c .before .before .before .before .before .before .before .before .args .opcode)) (sym (c .before .before .before .before .operand .given .1) ∙ c .before .before .before .before .before .before .read-operand .ensures) (rw (c .before .enum-told3 .given .1) (c .group-f6 .ensures))
 
 enum-known-form : tie.Need-enum-known-form
 enum-known-form c = search needs
@@ -72,11 +72,11 @@ returns-6 c = then-behind (c .before .before .before .before .before .before .be
 enum-told-5 : tie.Need-enum-told-5
 enum-told-5 c = search needs
 
-byte-to-register-or-memory-requires : tie.Need-byte-to-register-or-memory-requires
-byte-to-register-or-memory-requires c κs = search needs
+group-83-requires : tie.Need-group-83-requires
+group-83-requires c κs = search needs
 
 returns-7 : tie.Need-returns-7
-returns-7 c = then-behind (c .before .before .before .before .before .before .before .before .args .size) (c .before .before .before .before .before .before .before .before .args .s .now) (c .before .before .before .before .before .before .before .before .args .at) (modRMBehind (c .before .before .before .before .before .before .before .before .args .form) (c .before .before .before .before .before .before .before .before .args .size) (c .before .before .before .before .before .before .before .before .args .opcode)) (sym (c .before .before .before .before .operand .given .1) ∙ c .before .before .before .before .before .before .read-operand .ensures) (rw (c .before .enum-told5 .given .1) (c .byte-to-register-or-memory .ensures))
+returns-7 c = then-behind (c .before .before .before .before .before .before .before .before .args .size) (c .before .before .before .before .before .before .before .before .args .s .now) (c .before .before .before .before .before .before .before .before .args .at) (modRMBehind (c .before .before .before .before .before .before .before .before .args .form) (c .before .before .before .before .before .before .before .before .args .size) (c .before .before .before .before .before .before .before .before .args .opcode)) (sym (c .before .before .before .before .operand .given .1) ∙ c .before .before .before .before .before .before .read-operand .ensures) (rw (c .before .enum-told5 .given .1) (c .group-83 .ensures))
 
 enum-told-6 : tie.Need-enum-told-6
 enum-told-6 c = search needs
@@ -112,10 +112,10 @@ with-modrm-spec =
     pop-requires
     returns
     enum-told-2
-    increment-requires
+    group-fe-requires
     returns-2
     enum-told-3
-    unary-requires
+    group-f6-requires
     returns-3
     enum-known-form
     register-or-memory-and-register-requires
@@ -127,7 +127,7 @@ with-modrm-spec =
     immediate-to-register-or-memory-requires
     returns-6
     enum-told-5
-    byte-to-register-or-memory-requires
+    group-83-requires
     returns-7
     enum-told-6
     shift-by-immediate-requires

@@ -8,7 +8,7 @@ use Rattle.mrc_instruction.specs.declared.operand.OperandSize.the-variants.{Byt
 use Rattle.mrc_instruction.specs.declared.operation.Operation.the-variants.{DEC, INC, MOV, POP, PUSH, RET, TEST}
 use Rattle.mrc_rules.specs.Table.{rows, rowOf}
 use Rattle.mrc_forms.specs.Groups.{jumpOf}
-use Rattle.mrc_pairs.specs.declared.common.Direction.the-variants.{Detect}
+use Rattle.mrc_directed.specs.declared.common.Direction.the-variants.{Detect}
 use Rattle.mrc_decoder.specs.declared.form.Form.{Form}
 use Rattle.mrc_decoder.specs.declared.form.OpcodeAlone.{OpcodeAlone}
 use Rattle.mrc_decoder.specs.declared.form.WithModRM.{WithModRM}
@@ -243,7 +243,7 @@ returns-53 c = rw (c .match .keys53)
 
 returns-54 : tie.Need-returns-54
 unfolding rowOf rows
-returns-54 c = keys (0xC3 ∷ 0xCB ∷ []) (meant (Form.OpcodeAlone (OpcodeAlone.NoOperand RET))) (c .before .args .opcode) refl (c .match .keys54)
+returns-54 c = keys (0xC3 ∷ 0xCB ∷ []) (meant (Form.OpcodeAlone (OpcodeAlone.Bare RET))) (c .before .args .opcode) refl (c .match .keys54)
 
 returns-55 : tie.Need-returns-55
 unfolding rowOf rows

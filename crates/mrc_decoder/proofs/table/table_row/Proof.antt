@@ -1,6 +1,6 @@
 -- The table's rule, at the opcode.
 -- Assumes nothing.
-use Rattle.mrc_decoder.proofs.Whole.{numbers, row-is}
+use Rattle.mrc_decoder.proofs.TableRule.{numbers, row-is}
 use borrow.Author.Needs.{needs}
 use Rattle.mrc_decoder.proofs.table.table_row.Statement.{statement}
 use Rattle.mrc_decoder.proofs.table.table_row.Tie as tie

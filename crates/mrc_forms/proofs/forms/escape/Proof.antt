@@ -1,11 +1,11 @@
--- One reading, and then done.
+-- One reader, and then done.
 -- Assumes nothing.
 use mathlib.Core.Path.{refl, sym, _∙_}
 use native.Mathlib.Omega.{arith}
-use Rattle.mrc_instruction.specs.Reading.{aByte}
-use Rattle.mrc_instruction.proofs.Then.{took, done-at, stop-at}
-use Rattle.mrc_instruction.proofs.Heard.{byte-is}
-use Rattle.mrc_forms.proofs.Behind.{got-behind, stop-behind}
+use Rattle.mrc_instruction.specs.Reader.{aByte}
+use Rattle.mrc_instruction.proofs.Sequence.{took, done-at, stop-at}
+use Rattle.mrc_instruction.proofs.Outcomes.{byte-is}
+use Rattle.mrc_forms.proofs.BehindOpcode.{got-behind, stop-behind}
 use borrow.Author.Needs.{needs}
 use Rattle.mrc_forms.proofs.forms.escape.Statement.{statement}
 use Rattle.mrc_forms.proofs.forms.escape.Tie as tie

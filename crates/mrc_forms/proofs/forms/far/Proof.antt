@@ -1,12 +1,12 @@
--- Two readings, and then done. The sums fit, since what a reading took is there.
+-- Two readers, and then done. The sums fit, since what a reader took is there.
 -- Assumes nothing.
 use mathlib.Core.Path.{refl, sym, _∙_}
 use Prim.Native.Nat.{_+_}
 use native.Mathlib.Omega.{arith}
-use Rattle.mrc_instruction.specs.Reading.{aWord}
-use Rattle.mrc_instruction.proofs.Then.{took, then-at, done-at, stop-at}
-use Rattle.mrc_instruction.proofs.Heard.{word-is}
-use Rattle.mrc_forms.proofs.Behind.{got-behind, stop-behind}
+use Rattle.mrc_instruction.specs.Reader.{aWord}
+use Rattle.mrc_instruction.proofs.Sequence.{took, then-at, done-at, stop-at}
+use Rattle.mrc_instruction.proofs.Outcomes.{word-is}
+use Rattle.mrc_forms.proofs.BehindOpcode.{got-behind, stop-behind}
 use borrow.Author.Needs.{needs}
 use Rattle.mrc_forms.proofs.forms.far.Statement.{statement}
 use Rattle.mrc_forms.proofs.forms.far.Tie as tie

@@ -1,11 +1,11 @@
--- One reading, and then done.
+-- One reader, and then done.
 -- Assumes nothing.
 use mathlib.Core.Path.{refl, sym, _∙_}
 use native.Mathlib.Omega.{arith}
 use Rattle.mrc_rules.specs.Forms.{aDisplacement}
-use Rattle.mrc_instruction.proofs.Then.{took, done-at, stop-at}
-use Rattle.mrc_forms.proofs.Heard.{displacement-is}
-use Rattle.mrc_forms.proofs.Behind.{got-behind, stop-behind}
+use Rattle.mrc_instruction.proofs.Sequence.{took, done-at, stop-at}
+use Rattle.mrc_forms.proofs.Outcomes.{displacement-is}
+use Rattle.mrc_forms.proofs.BehindOpcode.{got-behind, stop-behind}
 use borrow.Author.Needs.{needs}
 use Rattle.mrc_forms.proofs.forms.on_displacement.Statement.{statement}
 use Rattle.mrc_forms.proofs.forms.on_displacement.Tie as tie

@@ -1,11 +1,11 @@
--- One reading, and then done.
+-- One reader, and then done.
 -- Assumes nothing.
 use mathlib.Core.Path.{refl, sym, _∙_}
 use native.Mathlib.Omega.{arith}
 use Rattle.mrc_rules.specs.Forms.{anImmediate}
-use Rattle.mrc_instruction.proofs.Then.{took, done-at, stop-at}
-use Rattle.mrc_forms.proofs.Heard.{immediate-is}
-use Rattle.mrc_forms.proofs.Behind.{got-behind, stop-behind}
+use Rattle.mrc_instruction.proofs.Sequence.{took, done-at, stop-at}
+use Rattle.mrc_forms.proofs.Outcomes.{immediate-is}
+use Rattle.mrc_forms.proofs.BehindOpcode.{got-behind, stop-behind}
 use borrow.Author.Needs.{needs}
 use Rattle.mrc_forms.proofs.forms.on_immediate.Statement.{statement}
 use Rattle.mrc_forms.proofs.forms.on_immediate.Tie as tie

@@ -1,9 +1,9 @@
--- One reading, by the size, and then done.
+-- One reader, by the size, and then done.
 -- Assumes nothing.
 use mathlib.Core.Path.{refl, sym, ap, _∙_}
-use Rattle.mrc_instruction.specs.Reading.{aByte, aWord}
-use Rattle.mrc_instruction.proofs.Then.{done-at, stop-at}
-use Rattle.mrc_instruction.proofs.Heard.{byte-is, word-is}
+use Rattle.mrc_instruction.specs.Reader.{aByte, aWord}
+use Rattle.mrc_instruction.proofs.Sequence.{done-at, stop-at}
+use Rattle.mrc_instruction.proofs.Outcomes.{byte-is, word-is}
 use Rattle.mrc_forms.specs.Traits.{displacementRead}
 use mir.Syntax.{w8, w16}
 use mir.ValLaws.{toZ-ofZ}

@@ -2,7 +2,7 @@
 -- Assumes nothing.
 use mathlib.Core.Path.{_≡_, ap, sym}
 use native.Mathlib.Omega.{arith}
-use Rattle.mrc_instruction.proofs.Past.{past}
+use Rattle.mrc_instruction.proofs.LastArm.{past}
 use Rattle.mrc_line.specs.Text.{digitOf}
 use Rattle.mrc_line.proofs.text.digit.Statement.{statement}
 use Rattle.mrc_line.proofs.text.digit.Tie as tie

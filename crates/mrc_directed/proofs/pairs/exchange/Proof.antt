@@ -1,0 +1,17 @@
+-- Nothing is read.
+-- Assumes nothing.
+use borrow.Author.Needs.{needs}
+use Rattle.mrc_directed.proofs.pairs.exchange.Statement.{statement}
+use Rattle.mrc_directed.proofs.pairs.exchange.Tie as tie
+
+from-low-bits-requires : tie.Need-from-low-bits-requires
+from-low-bits-requires c κs = search needs
+
+decoded-requires : tie.Need-decoded-requires
+decoded-requires c κs = search needs
+
+returns : tie.Need-returns
+returns c = rw (c .decoded .ensures, c .before .from-low-bits .ensures)
+
+pub exchange-spec : {M : Type 1} → statement M
+exchange-spec = tie.close (tie.spec from-low-bits-requires decoded-requires returns)

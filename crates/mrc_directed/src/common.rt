@@ -1,0 +1,129 @@
+// The forms that several opcodes share, destination before source. Those with a ModRM take the operand that it names, its byte and the
+// position behind it; the other takes the position behind the opcode.
+use mrc_forms::answers::FormRead;
+use mrc_forms::answers::decoded;
+use mrc_forms::answers::refused;
+use mrc_forms::groups::immediate_operation;
+use mrc_forms::traits::ImmediateRead;
+use mrc_forms::traits::operand_size;
+use mrc_forms::traits::read_immediate;
+use mrc_instruction::instruction::Instruction;
+use mrc_instruction::instruction::OperandSet;
+use mrc_instruction::operand::Operand;
+use mrc_instruction::operand::OperandSize;
+use mrc_instruction::operation::Operation;
+use mrc_instruction::register::RegisterEncoding;
+use mrc_instruction::register::Segment;
+use mrc_instruction::register::SegmentField;
+use mrc_instruction::register::SizedRegisterEncoding;
+use mrc_rules::Answer;
+ghost use mathlib.Core.Path.{_≡_};
+ghost use mathlib.Core.List.{[]};
+ghost use lib.ListN.{drop};
+ghost use Rattle.mrc_instruction.specs.Reader.{readFrom};
+ghost use Rattle.mrc_rules.specs.Forms.{immediateToAccumulator};
+ghost use Rattle.mrc_forms.specs.declared.answers.FormRead.{FormRead};
+ghost use Rattle.mrc_forms.specs.Answers.{readBy, formRead};
+ghost use Rattle.mrc_forms.specs.Traits.{sizeBy};
+ghost use Rattle.mrc_directed.specs.Common.{regFirst, registerBehind, segmentBehind, immediateBehind};
+
+// Which operand is the destination: the one that d says, the register, or the register or memory.
+pub enum Direction {
+    Detect,
+    RegFirst,
+    RegMemFirst,
+}
+
+fn reg_first(direction: Direction, opcode: u8) -> bool
+    ensures { λ r. ⌜ r ≡ regFirst direction opcode ⌝ }
+{
+    match direction {
+        Direction::Detect => opcode / 2 % 2 == 1,
+        Direction::RegFirst => true,
+        Direction::RegMemFirst => false,
+    }
+}
+
+// x x x x x x d w | mod reg r/m
+pub fn register_or_memory_and_register(
+    operation: Operation,
+    direction: Direction,
+    size: OperandSize,
+    opcode: u8,
+    reg_mem: Operand,
+    byte: u8,
+    at: usize,
+) -> FormRead
+    ensures { λ r. ⌜ r ≡ FormRead.Got (registerBehind direction opcode operation size «reg_mem» byte) at ⌝ }
+{
+    let register = RegisterEncoding::from_low_bits(byte / 8);
+    let reg = Operand::Register(SizedRegisterEncoding(register, size));
+    if reg_first(direction, opcode) {
+        let operands = OperandSet::DestinationAndSource(reg, reg_mem);
+        return FormRead::Got(Instruction::new(operation, operands), at);
+    }
+    let operands = OperandSet::DestinationAndSource(reg_mem, reg);
+    return FormRead::Got(Instruction::new(operation, operands), at);
+}
+
+// 1 0 0 0 1 1 d 0 | mod reg r/m
+pub fn register_or_memory_and_segment(opcode: u8, reg_mem: Operand, byte: u8, at: usize) -> FormRead
+    ensures { λ r. ⌜ r ≡ formRead at (readFrom (segmentBehind opcode «reg_mem» byte) []) ⌝ }
+{
+    match Segment::try_from_encoding(byte / 8 % 8) {
+        SegmentField::Found(segment) => {
+            let seg = Operand::Segment(segment);
+            if opcode / 2 % 2 == 1 {
+                let operands = OperandSet::DestinationAndSource(seg, reg_mem);
+                return FormRead::Got(Instruction::new(Operation::MOV, operands), at);
+            }
+            let operands = OperandSet::DestinationAndSource(reg_mem, seg);
+            return FormRead::Got(Instruction::new(Operation::MOV, operands), at);
+        }
+        SegmentField::Refused(e) => return FormRead::Refused(e, at),
+    }
+}
+
+// x x x x x x x w | mod reg r/m | data | data if w = 1
+pub fn immediate_to_register_or_memory(
+    group: u8,
+    size: OperandSize,
+    destination: Operand,
+    byte: u8,
+    s: &[u8],
+    at: usize,
+) -> FormRead
+    ensures { λ r. ⌜ r ≡ formRead at (readFrom (immediateBehind group size destination byte) (drop at (now (s .entry)))) ⌝ }
+{
+    match read_immediate(size, s, at) {
+        ImmediateRead::Got(immediate, n) => {
+            let source = Operand::Immediate(immediate);
+            let operation = immediate_operation(group, byte / 8 % 8);
+            let operands = OperandSet::DestinationAndSource(destination, source);
+            return FormRead::Got(Instruction::new(operation, operands), at + n);
+        }
+        ImmediateRead::Refused(e, n) => return FormRead::Refused(e, at + n),
+    }
+}
+
+// x x x x x x x w | data | data if w = 1
+pub fn immediate_to_accumulator(operation: Operation, opcode: u8, s: &[u8], at: usize) -> Answer
+    ensures { λ r. ⌜ r ≡ readBy opcode (immediateToAccumulator operation (sizeBy opcode)) (drop at (now (s .entry))) ⌝ }
+{
+    let size = operand_size(opcode);
+    match read_immediate(size, s, at) {
+        ImmediateRead::Got(immediate, n) => {
+            let accumulator = Operand::Register(SizedRegisterEncoding(
+                RegisterEncoding::AlAx,
+                size,
+            ));
+            let source = Operand::Immediate(immediate);
+            return decoded(
+                operation,
+                OperandSet::DestinationAndSource(accumulator, source),
+                n + 1,
+            );
+        }
+        ImmediateRead::Refused(e, n) => return refused(e, n + 1),
+    }
+}

@@ -1,0 +1,111 @@
+-- "Readings to prove": the numbered cases, each an input under its budget with the answer that it has.
+use Prim.Native.Nat.{ℕ}
+use mathlib.Core.List.{List, [], _∷_}
+use lib.IntN.{pos, negsuc}
+use Rattle.mrc_instruction.specs.declared.register.Segment.the-variants.{ES, CS, SS, DS}
+use Rattle.mrc_instruction.specs.declared.register.RegisterEncoding.the-variants.{AlAx, BlBx}
+use Rattle.mrc_instruction.specs.declared.operand.AddressingMode.the-variants.{BxSi, BpSi, Bp, Bx}
+use Rattle.mrc_instruction.specs.declared.operand.OperandSize.the-variants.{Byte, Word}
+use Rattle.mrc_instruction.specs.declared.operand.Displacement.{Displacement}
+use Rattle.mrc_instruction.specs.declared.operand.Immediate.{Immediate}
+use Rattle.mrc_instruction.specs.declared.operand.Operand.{Operand}
+use Rattle.mrc_instruction.specs.declared.instruction.OperandSet.{OperandSet}
+use Rattle.mrc_instruction.specs.declared.instruction.Repeat.{Repeat}
+use Rattle.mrc_instruction.specs.declared.instruction.Repeated.{Repeated}
+use Rattle.mrc_instruction.specs.declared.instruction.Instruction.{Instruction}
+use Rattle.mrc_instruction.specs.declared.operation.Operation.the-variants.{ADD, IN, JE, JMP, JNE, LES, MOV, MOVSB, OR, OUT, TEST, XCHG}
+use Rattle.mrc_instruction.specs.declared.errors.Refusal.the-variants.{EndOfInput, CouldNotReadExtraBytes, InvalidModRegRMEncoding, InvalidOpCode, InvalidSegmentEncoding, InvalidPrefix, TooManyPrefixes}
+use Rattle.mrc_rules.specs.declared.Answer.{Answer}
+use Rattle.mrc_rules.specs.declared.Answer.the-variants.{Decoded, Refused}
+use Rattle.mrc_rules.specs.Forms.{one, two, register}
+
+-- an input with its budget, and the answer that it has
+pub record Case : Type 0 where
+  pub budget : ℕ
+  pub input : List ℕ
+  pub answer : Answer
+
+abbrev pub case : ℕ → List ℕ → Answer → Case
+case b l a = record { budget = b; input = l; answer = a }
+
+abbrev pub cases : List Case
+cases =
+    case 15 [] (Refused EndOfInput 0 0)  -- 1
+    ∷ case 15 (0xF3 ∷ []) (Refused EndOfInput 1 1)  -- 2
+    ∷ case 15 (0x26 ∷ []) (Refused (InvalidPrefix 0x26) 1 1)  -- 3
+    ∷ case 15 (0x83 ∷ 0xC0 ∷ 0xFF ∷ []) (Decoded (two ADD (register AlAx Word) (Operand.Immediate (Immediate.Word 0x00FF))) 3 0)  -- 4
+    ∷ case 15 (0x26 ∷ 0xA4 ∷ []) (Refused (InvalidPrefix 0x26) 2 1)  -- 5
+    ∷ case 15 (0x26 ∷ 0x2E ∷ 0x8B ∷ 0x07 ∷ []) (Decoded (two MOV (register AlAx Word) (Operand.Indirect ES Word Bx Displacement.None)) 4 2)  -- 6
+    ∷ case 15 (0x8B ∷ 0x47 ∷ 0x00 ∷ []) (Decoded (two MOV (register AlAx Word) (Operand.Indirect DS Word Bx Displacement.None)) 3 0)  -- 7
+    ∷ case 15 (0xF6 ∷ 0xC8 ∷ []) (Refused (InvalidOpCode 0x01) 2 0)  -- 8
+    ∷ case 15 (0x8F ∷ 0x48 ∷ []) (Refused CouldNotReadExtraBytes 2 0)  -- 9
+    ∷ case 15 (0x8F ∷ 0x48 ∷ 0x00 ∷ []) (Refused (InvalidModRegRMEncoding 0x48) 3 0)  -- 9
+    ∷ case 15 (0x8E ∷ 0xE0 ∷ []) (Refused (InvalidSegmentEncoding 0x04) 2 0)  -- 10
+    ∷ case 15 (0x81 ∷ 0x80 ∷ 0x34 ∷ 0x12 ∷ 0x78 ∷ 0x56 ∷ [])
+    (Decoded (two ADD (Operand.Indirect DS Word BxSi (Displacement.Word (pos 0x1234))) (Operand.Immediate (Immediate.Word 0x5678))) 6 0)  -- 11
+    ∷ case 15 (0x81 ∷ 0x80 ∷ 0x34 ∷ 0x12 ∷ 0x78 ∷ []) (Refused CouldNotReadExtraBytes 5 0)  -- 11
+    ∷ case 15 (0xF2 ∷ 0xF3 ∷ 0xA4 ∷ [])
+    (Decoded (record { repeat = Repeated.Some Repeat.NotEqual; operation = MOVSB; operands = OperandSet.None }) 3 2)  -- 12
+    ∷ case 0 (0xF3 ∷ 0x90 ∷ []) (Refused (TooManyPrefixes 0xF3) 1 1)  -- 13
+    ∷ []
+
+-- MOV AX from memory
+abbrev pub movAxFrom : Operand → ℕ → ℕ → Answer
+movAxFrom memory = Decoded (two MOV (register AlAx Word) memory)
+
+-- REPE MOV AX, ES:[BX]
+abbrev pub repeatedMov : Instruction
+repeatedMov = record {
+  repeat = Repeated.Some Repeat.Equal;
+  operation = MOV;
+  operands = OperandSet.DestinationAndSource (register AlAx Word) (Operand.Indirect ES Word Bx Displacement.None);
+}
+
+-- inputs that a decoder may get wrong and still look right
+abbrev pub easilyMistaken : List Case
+easilyMistaken =
+    -- 83 widens its byte with zeros, whatever reg is
+    case 15 (0x83 ∷ 0xC8 ∷ 0x80 ∷ []) (Decoded (two OR (register AlAx Word) (Operand.Immediate (Immediate.Word 0x0080))) 3 0)
+    -- the segment is DS where BP is the base, in each mod
+    ∷ case 15 (0x8B ∷ 0x02 ∷ []) (movAxFrom (Operand.Indirect DS Word BpSi Displacement.None) 2 0)
+    ∷ case 15 (0x8B ∷ 0x46 ∷ 0x02 ∷ []) (movAxFrom (Operand.Indirect DS Word Bp (Displacement.Byte (pos 2))) 3 0)
+    ∷ case 15 (0x8B ∷ 0x86 ∷ 0x00 ∷ 0x80 ∷ []) (movAxFrom (Operand.Indirect DS Word Bp (Displacement.Word (negsuc 0x7FFF))) 4 0)
+    -- a jump keeps a displacement of 0; JE is 74 and JNE 75
+    ∷ case 15 (0x74 ∷ 0x00 ∷ []) (Decoded (one JE (Operand.Displacement (Displacement.Byte (pos 0)))) 2 0)
+    ∷ case 15 (0x75 ∷ 0x80 ∷ []) (Decoded (one JNE (Operand.Displacement (Displacement.Byte (negsuc 0x7F)))) 2 0)
+    ∷ case 15 (0xE9 ∷ 0x00 ∷ 0x00 ∷ []) (Decoded (one JMP (Operand.Displacement (Displacement.Word (pos 0)))) 3 0)
+    -- 8F reads its displacement before its reg is tested
+    ∷ case 15 (0x8F ∷ 0xC8 ∷ []) (Refused (InvalidModRegRMEncoding 0xC8) 2 0)
+    ∷ case 15 (0x8F ∷ 0x88 ∷ 0x00 ∷ []) (Refused CouldNotReadExtraBytes 3 0)
+    -- the first override wins, and each names its segment
+    ∷ case 15 (0x26 ∷ 0x8B ∷ 0x07 ∷ []) (movAxFrom (Operand.Indirect ES Word Bx Displacement.None) 3 1)
+    ∷ case 15 (0x2E ∷ 0x26 ∷ 0x8B ∷ 0x07 ∷ []) (movAxFrom (Operand.Indirect CS Word Bx Displacement.None) 4 2)
+    ∷ case 15 (0x36 ∷ 0x2E ∷ 0x8B ∷ 0x07 ∷ []) (movAxFrom (Operand.Indirect SS Word Bx Displacement.None) 4 2)
+    ∷ case 15 (0x3E ∷ 0x36 ∷ 0x8B ∷ 0x07 ∷ []) (movAxFrom (Operand.Indirect DS Word Bx Displacement.None) 4 2)
+    -- an override replaces the segment of memory, direct or not, as the destination or as the source, and leaves registers alone
+    ∷ case 15 (0x26 ∷ 0xA1 ∷ 0x34 ∷ 0x12 ∷ []) (movAxFrom (Operand.Direct ES Word 0x1234) 4 1)
+    ∷ case 15 (0x2E ∷ 0x01 ∷ 0x07 ∷ []) (Decoded (two ADD (Operand.Indirect CS Word Bx Displacement.None) (register AlAx Word)) 3 1)
+    ∷ case 15 (0x36 ∷ 0x89 ∷ 0xD8 ∷ []) (Decoded (two MOV (register AlAx Word) (register BlBx Word)) 3 1)
+    -- a repeat stays under an override, before it and behind it
+    ∷ case 15 (0xF3 ∷ 0x26 ∷ 0x8B ∷ 0x07 ∷ []) (Decoded repeatedMov 4 2)
+    ∷ case 15 (0x26 ∷ 0xF3 ∷ 0xF2 ∷ 0x8B ∷ 0x07 ∷ []) (Decoded repeatedMov 5 3)
+    -- a missing ModRM byte is not the end of the input
+    ∷ case 15 (0x8B ∷ []) (Refused CouldNotReadExtraBytes 1 0)
+    ∷ case 15 (0xF3 ∷ 0x80 ∷ []) (Refused CouldNotReadExtraBytes 2 1)
+    -- 60 and C8 begin nothing
+    ∷ case 15 (0x60 ∷ []) (Refused (InvalidOpCode 0x60) 1 0)
+    ∷ case 15 (0xC8 ∷ []) (Refused (InvalidOpCode 0xC8) 1 0)
+    -- destination before source, in each direction
+    ∷ case 15 (0x89 ∷ 0xD8 ∷ []) (Decoded (two MOV (register AlAx Word) (register BlBx Word)) 2 0)
+    ∷ case 15 (0x8B ∷ 0xD8 ∷ []) (Decoded (two MOV (register BlBx Word) (register AlAx Word)) 2 0)
+    ∷ case 15 (0x85 ∷ 0xD8 ∷ []) (Decoded (two TEST (register AlAx Word) (register BlBx Word)) 2 0)
+    ∷ case 15 (0x87 ∷ 0xD8 ∷ []) (Decoded (two XCHG (register AlAx Word) (register BlBx Word)) 2 0)
+    ∷ case 15 (0x93 ∷ []) (Decoded (two XCHG (register AlAx Word) (register BlBx Word)) 1 0)
+    ∷ case 15 (0x8C ∷ 0xD8 ∷ []) (Decoded (two MOV (register AlAx Word) (Operand.Segment DS)) 2 0)
+    ∷ case 15 (0x8E ∷ 0xD8 ∷ []) (Decoded (two MOV (Operand.Segment DS) (register AlAx Word)) 2 0)
+    ∷ case 15 (0xC4 ∷ 0x07 ∷ []) (Decoded (two LES (register AlAx Word) (Operand.Indirect DS Word Bx Displacement.None)) 2 0)
+    ∷ case 15 (0xA0 ∷ 0x34 ∷ 0x12 ∷ []) (Decoded (two MOV (register AlAx Byte) (Operand.Direct DS Byte 0x1234)) 3 0)
+    ∷ case 15 (0xA2 ∷ 0x34 ∷ 0x12 ∷ []) (Decoded (two MOV (Operand.Direct DS Byte 0x1234) (register AlAx Byte)) 3 0)
+    ∷ case 15 (0xE4 ∷ 0x34 ∷ []) (Decoded (two IN (register AlAx Byte) (Operand.Immediate (Immediate.Byte 0x34))) 2 0)
+    ∷ case 15 (0xE6 ∷ 0x34 ∷ []) (Decoded (two OUT (Operand.Immediate (Immediate.Byte 0x34)) (register AlAx Byte)) 2 0)
+    ∷ []
