@@ -15,7 +15,7 @@ use Rattle.mrc_list.specs.declared.input.Input.{Input}
 use Rattle.mrc_list.specs.declared.input.Input.the-variants.{Image, TooLong, Failed}
 use Rattle.mrc_list.specs.declared.input.Progress.{Progress}
 use Rattle.mrc_list.specs.declared.input.Progress.the-variants.{More, Read}
-use Rattle.mrc_list.specs.Progress as Spec
+use Rattle.mrc_list.specs.Input as Spec
 use Rattle.mrc_list.specs.Input.{afterRead, inputOf, Comes, Reads, last, more}
 
 -- ---- the answer's number
