@@ -1,4 +1,4 @@
--- "`Instruction::new`: take no repeat."
+-- Rule 7.9: what a form makes has no repeat.
 use Rattle.mrc_instruction.specs.declared.operation.Operation.{Operation}
 use Rattle.mrc_instruction.specs.declared.instruction.OperandSet.{OperandSet}
 use Rattle.mrc_instruction.specs.declared.instruction.Repeated.{Repeated}

@@ -14,8 +14,7 @@ use Rattle.mrc_instruction.specs.Operand.{addressingOf}
 use Rattle.mrc_instruction.specs.Signed.{signedByte, signedWord}
 use Rattle.mrc_instruction.specs.Reader.{Reader, done, _>>=_, aByte, aWord}
 
--- by mod and rm: "mod 0 with rm 6 is Direct with a 16-bit offset, low byte first; otherwise mod 0 is Indirect without displacement; mod 1
--- adds a signed byte, mod 2 a signed word, mod 3 is a register"
+-- rule 4.2: what mod and rm name, and what is read for it
 abbrev pub registerOrMemory : ℕ → ℕ → Reader RegisterOrMemory
 registerOrMemory zero rm =
     cond (eqb rm 6) (aWord >>= λ w. done (RegisterOrMemory.Direct w)) (done (RegisterOrMemory.Indirect (addressingOf rm)))
@@ -23,17 +22,17 @@ registerOrMemory (suc zero) rm = aByte >>= λ b. done (RegisterOrMemory.Displace
 registerOrMemory (suc (suc zero)) rm = aWord >>= λ w. done (RegisterOrMemory.DisplacementWord (addressingOf rm) (signedWord w))
 registerOrMemory (suc (suc (suc n))) rm = done (RegisterOrMemory.Register (registerOf rm))
 
+-- reg is the three bits below mod and above rm
+abbrev pub regField : ℕ → ℕ
+regField byte = byte / 8 % 8
+
 -- a ModRM byte with what its reg, and its mod and rm, name
 pub record ModRM : Type 0 where
   pub byte : ℕ
   pub mrrm : ModRegRM
 
--- "mod is the top two bits, reg the next three, rm the last three"
-abbrev pub regField : ModRM → ℕ
-regField m = m .byte / 8 % 8
-
 abbrev pub modRM : ℕ → RegisterOrMemory → ModRM
-modRM b x = record { byte = b; mrrm = record { register = registerOf (b / 8 % 8); «register_or_memory» = x } }
+modRM b x = record { byte = b; mrrm = record { register = registerOf (regField b); «register_or_memory» = x } }
 
 abbrev pub aModRM : Reader ModRM
 aModRM = do
@@ -41,13 +40,13 @@ aModRM = do
   x ← registerOrMemory (b / 64) (b % 8)
   done (modRM b x)
 
--- "A mod 1 or 2 displacement of 0 becomes `Displacement::None`."
+-- rule 4.3: a displacement of 0 is none
 abbrev pub orNone : (ℤ → Displacement) → ℤ → Displacement
 orNone written (pos zero) = Displacement.None
 orNone written (pos (suc n)) = written (pos (suc n))
 orNone written (negsuc n) = written (negsuc n)
 
--- the operand of a size: "The segment is DS always, BP included."
+-- the operand of a size; rule 4.4: in DS
 abbrev pub operandOf : OperandSize → RegisterOrMemory → Operand
 operandOf size (RegisterOrMemory.Direct w) = Operand.Direct Segment.DS size w
 operandOf size (RegisterOrMemory.Indirect mode) = Operand.Indirect Segment.DS size mode Displacement.None

@@ -1,4 +1,5 @@
--- What an answer says in numbers, whatever its type: the four columns of the table of refusals. What is no refusal has number 0 and byte 0.
+-- Rules 9.1 and 9.2: what an answer says in numbers, whatever its type: the four columns of the table of refusals. What is no refusal has number 0
+-- and byte 0.
 use mathlib.Core.Path.{_≡_}
 use mathlib.Core.Logic.{_⊎_}
 use Prim.Native.Nat.{ℕ, _≤_}

@@ -2,6 +2,7 @@
 -- Assumes nothing.
 use mathlib.Core.Path.{_≡_, refl}
 use mathlib.Core.List.{_++_, map}
+use Rattle.mrc_rules.specs.Forms.{withModRM}
 use Rattle.mrc_rules.specs.Table.{rows, rowOf}
 use Rattle.mrc_instruction.specs.Reader.{aByte, aWord}
 use Rattle.mrc_line.specs.Text.{bytes}
@@ -10,5 +11,5 @@ use Rattle.mrc_line.specs.Page.{linesFrom, linesOf}
 use Rattle.mrc_line.specs.Example.{image, printed}
 
 pub six-lines : map (lineText image) (linesOf image) ≡ map (λ t. bytes t ++ lineEnd) printed
-unfolding linesFrom lineText lineTaken headText instructionText stepText rows rowOf aByte aWord
+unfolding linesFrom lineText lineTaken headText instructionText stepText rows rowOf aByte aWord withModRM
 six-lines = refl

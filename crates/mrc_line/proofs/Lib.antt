@@ -1,5 +1,5 @@
 pub mod Put
-pub mod Signed
+pub mod Magnitudes
 pub mod Takes
 pub mod Lines
 pub mod Pages

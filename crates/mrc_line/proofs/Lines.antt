@@ -23,7 +23,7 @@ unfolding linesFrom
 lines-past zero s at h = refl
 lines-past (suc f) s at h = simp (le-ltb at (length s) h)
 
--- an induction along the lines from a place on, f of which are enough
+-- an induction along the lines from a position on, f of which are enough
 pub along :
     (s : List ℕ) (P : ℕ → ℕ → Type 0) →
     ((f at : ℕ) → length s ≤ at → P f at) →

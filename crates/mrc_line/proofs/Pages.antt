@@ -30,7 +30,7 @@ pub page-none : (s : List ℕ) (at room : ℕ) → offsets < length s → pageOf
 unfolding pageOf
 page-none s at room h = simp (lt-ltb offsets (length s) h)
 
--- the text from a place on: what fits, and the text from where that ends on
+-- the text from a position on: what fits, and the text from where that ends on
 abbrev Split : List ℕ → ℕ → ℕ → Type 0
 Split s f at =
     (room : ℕ) → textOf s (linesFrom f s at)

@@ -1,4 +1,4 @@
--- The loop of a page: what stands in the buffer so far are whole lines, and the page is these and what still fits from the next place on.
+-- The loop of a page: what stands in the buffer so far are whole lines, and the page is these and what still fits from the next position on.
 -- Assumes nothing.
 use mathlib.Core.Path.{_≡_, refl, sym, ap, _∙_, subst}
 use mathlib.Core.List.{List, [], _∷_, _++_, append-assoc, append-nil}
@@ -26,10 +26,10 @@ use Rattle.mrc_line.proofs.Answers.{Told, told, lacks}
 mid-length : (d : List ℕ) (o : ℕ) → o ≤ length d → length (midOf o (length d - o) d) ≡ length d - o
 mid-length d o h = length-take-le (length d - o) (drop o d) (rw (length-drop o d) (omega arith))
 
-placed :
+put-behind :
     (d : List ℕ) (o : ℕ) (t e : List ℕ) → o ≤ length d → length t ≤ length d - o → e ≡ t ++ drop (length t) (midOf o (length d - o) d) →
     Put (length t) d o t (putMid o (length d - o) d e) (o + length t)
-placed d o t e h g q =
+put-behind d o t e h g q =
     let k = length d - o in
     let m = midOf o k d in
     let x = drop (length t) m in
@@ -109,7 +109,7 @@ module _
     grown : Put (length (lineText s next)) out o (lineText s next) (putMid o (length out - o) out last) (o + len)
     grown =
         subst (λ (n : ℕ). Put (length (lineText s next)) out o (lineText s next) (putMid o (length out - o) out last) (o + n)) (sym (tells .len-is))
-        (placed out o (lineText s next) last (p .inside) (omega (arith, tells .fits, p .long)) at-line)
+        (put-behind out o (lineText s next) last (p .inside) (omega (arith, tells .fits, p .long)) at-line)
 
     by-count :
         length last ≡ length (midOf o (length out - o) out) → next < length s → (f : ℕ) → length s ≤ next + f →

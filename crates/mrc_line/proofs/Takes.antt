@@ -11,10 +11,10 @@ use Rattle.mrc_rules.specs.declared.Answer.{Answer}
 use Rattle.mrc_rules.specs.Answer.{taken}
 use Rattle.mrc_rules.specs.Decode.{rules, decodeAt}
 use Rattle.mrc_rules.proofs.Counting.{taken-there, budget-kept}
-use Rattle.mrc_rules.proofs.Length.{length-rule}
+use Rattle.mrc_rules.proofs.Lengths.{length-rule}
 use Rattle.mrc_line.specs.Line.{budget, stepText, stepTaken, lineText, lineTaken}
 
--- what an answer at a place accounts for
+-- what an answer at a position accounts for
 pub record Takes (s : List ℕ) (at : ℕ) (n : ℕ) : Type 0 where
   pub some : 1 ≤ n
   pub few : n ≤ 21
@@ -38,7 +38,7 @@ pub line-takes : (s : List ℕ) (at : ℕ) → at < length s → Takes s at (lin
 unfolding lineTaken
 line-takes s at h = step-takes s at h
 
--- what was decoded at a place makes the line there
+-- what was decoded at a position makes the line there
 module _ (s : List ℕ) (at : ℕ) {a : Answer} (e : a ≡ decodeAt s at budget) where
   pub text-is : stepText s at a ≡ lineText s at
   unfolding lineText

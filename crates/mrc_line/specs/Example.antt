@@ -1,4 +1,4 @@
--- An example: thirteen bytes, and the six lines that they list as.
+-- Rule 16.3: thirteen bytes, and the six lines that they list as.
 use mathlib.Core.List.{List, [], _∷_}
 use Prim.Native.Nat.{ℕ}
 use Prim.Native.String.{String}

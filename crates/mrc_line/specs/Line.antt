@@ -1,4 +1,4 @@
--- "The listing line": its fields in order, and what a line call answers, in numbers too.
+-- Section 12: the fields of a line in order, and what a line call answers, in numbers too.
 use mathlib.Core.Path.{_≡_}
 use mathlib.Core.Bool.{cond}
 use mathlib.Core.List.{List, [], _∷_, _++_}
@@ -18,35 +18,34 @@ use Rattle.mrc_line.specs.Target.{offsets}
 use Rattle.mrc_line.specs.Text.{bytes, hex2, hex4, pairs, padded, shown, fieldWidth}
 use Rattle.mrc_line.specs.Operands.{operandsText}
 
--- "start offset, four upper-case hex digits; two spaces; the first seven bytes taken, each two digits and a space, padded to 21 characters;
--- two spaces"
+-- rule 12.2: the offset, the bytes, and a gap behind each
 unfoldable pub headText : ℕ → List ℕ → List ℕ
 headText start taken = hex4 start ++ (bytes "  " ++ (padded fieldWidth (pairs (take shown taken)) ++ bytes "  "))
 
--- "`REPE ` or `REPNE ` if repeated"
+-- rule 12.2: the repeat
 abbrev pub repeatText : Repeated → List ℕ
 repeatText Repeated.None = []
 repeatText (Repeated.Some Repeat.Equal) = bytes "REPE "
 repeatText (Repeated.Some Repeat.NotEqual) = bytes "REPNE "
 
--- LF
+-- rule 12.2: LF
 abbrev pub lineEnd : List ℕ
 lineEnd = 10 ∷ []
 
--- "`REPE ` or `REPNE ` if repeated; the name; if operands, a space and them": an instruction that starts at an offset and takes so many bytes
+-- rule 12.2: repeat, name and operands of an instruction that starts at an offset and takes so many bytes
 unfoldable pub instructionText : ℕ → ℕ → Instruction → List ℕ
 instructionText start taken i = repeatText (i .repeat) ++ (nameOf (i .operation) ++ operandsText start taken (i .operands))
 
--- "A refused decode lists its first byte .. as `DB XX`"
+-- rule 12.7: a byte at which nothing decodes
 abbrev pub dbText : ℕ → List ℕ
 dbText b = bytes "DB " ++ hex2 b
 
--- what stands behind the byte field, by what was decoded and the first byte
+-- rules 12.2 and 12.7: what stands behind the byte field, by what was decoded and the first byte
 abbrev pub bodyText : ℕ → ℕ → Answer → List ℕ
 bodyText start b (Answer.Decoded i n p) = instructionText start n i
 bodyText start b (Answer.Refused e n p) = dbText b
 
--- the bytes that a line accounts for: "A refused decode .. answers 1 taken, and the next line starts one byte on"
+-- rules 12.7 and 12.9: the bytes that a line accounts for
 abbrev pub stepTaken : Answer → ℕ
 stepTaken (Answer.Decoded i n p) = n
 stepTaken (Answer.Refused e n p) = 1
@@ -56,19 +55,19 @@ abbrev pub stepPrefixes : Answer → ℕ
 stepPrefixes (Answer.Decoded i n p) = p
 stepPrefixes (Answer.Refused e n p) = 0
 
--- the line of what was decoded at a place of an image
+-- the line of what was decoded at a position of an image
 unfoldable pub stepText : List ℕ → ℕ → Answer → List ℕ
 stepText s at a = headText at (take (stepTaken a) (drop at s)) ++ (bodyText at (getD s at 0) a ++ lineEnd)
 
--- the most bytes that a line has, whatever the record
+-- rule 12.8: the most bytes that a line has, whatever the record
 abbrev pub longest : ℕ
 longest = 85
 
--- "Budget 15 for it and the line call."
+-- rule 12.1: the budget of every line
 abbrev pub budget : ℕ
 budget = 15
 
--- the line at a place of an image, the bytes that it accounts for, and its prefixes
+-- the line at a position of an image, the bytes that it accounts for, and its prefixes
 unfoldable pub lineText : List ℕ → ℕ → List ℕ
 lineText s at = stepText s at (decodeAt s at budget)
 
@@ -78,7 +77,7 @@ lineTaken s at = stepTaken (decodeAt s at budget)
 unfoldable pub linePrefixes : List ℕ → ℕ → ℕ
 linePrefixes s at = stepPrefixes (decodeAt s at budget)
 
--- "Order in a line call: 13, 11, 1 (position equal to the length), 12."; else the line's length and the bytes taken
+-- rule 12.9: the refusals in their order; else the line's length and the bytes taken
 unfoldable pub answerOf : List ℕ → ℕ → ℕ → LineAnswer
 answerOf s at room =
     cond (ltb offsets (length s)) (LineAnswer.Refused Refusal.ImageTooLong)
@@ -87,7 +86,7 @@ answerOf s at room =
     (cond (ltb room (length (lineText s at))) (LineAnswer.Refused Refusal.NoRoom)
     (LineAnswer.Line (length (lineText s at)) (lineTaken s at)))))
 
--- what an answer says in numbers, by the image and the place that were asked for
+-- what an answer says in numbers, by the image and the position that were asked for
 abbrev pub lineValues : List ℕ → ℕ → LineAnswer → Values
 lineValues s at (LineAnswer.Line len taken) = carrying 0 0 taken (linePrefixes s at)
 lineValues s at (LineAnswer.Refused e) = refusedWith e 0 0
@@ -101,12 +100,12 @@ valuesAt s at room =
     (cond (ltb room (length (lineText s at))) (carrying 12 0 0 0)
     (carrying 0 0 (lineTaken s at) (linePrefixes s at)))))
 
--- what a buffer holds after an answer: the line, and "the buffer beyond the line unchanged"; "a refused line call changes no byte"
+-- rule 12.10: what a buffer holds after an answer
 abbrev pub after : LineAnswer → List ℕ → List ℕ → List ℕ
 after (LineAnswer.Line len taken) text out = text ++ drop len out
 after (LineAnswer.Refused e) text out = out
 
--- a line call's answer r, and its buffer before the call and after it
+-- rules 12.9 and 12.10: a line call's answer r, and its buffer before the call and after it
 pub record Listed (s : List ℕ) (at : ℕ) (out : List ℕ) (r : LineAnswer) (done : List ℕ) : Type 0 where
   pub answer : r ≡ answerOf s at (length out)
   pub values : lineValues s at r ≡ valuesAt s at (length out)

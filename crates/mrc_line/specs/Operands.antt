@@ -1,5 +1,4 @@
--- The text of operands: "register and segment names; `WORD ES:[1234]`; `BYTE DS:[BX+SI-80]`, sign and magnitude in two or four digits;
--- immediates in two or four digits; `SSSS:OOOO`".
+-- Rule 12.4: the text of operands.
 use mathlib.Core.List.{List, [], _∷_, _++_}
 use Prim.Native.Nat.{ℕ}
 use lib.IntN.{ℤ, pos, negsuc, natAbs}
@@ -18,7 +17,7 @@ use Rattle.mrc_instruction.specs.declared.instruction.OperandSet.{OperandSet}
 use Rattle.mrc_line.specs.Text.{bytes, hex2, hex4}
 use Rattle.mrc_line.specs.Target.{targetOf}
 
--- "register and segment names"
+-- rule 12.4: the names of registers, segments and modes
 abbrev pub registerText : RegisterEncoding → OperandSize → List ℕ
 registerText AlAx Byte = bytes "AL"
 registerText ClCx Byte = bytes "CL"
@@ -57,7 +56,7 @@ abbrev pub sizeText : OperandSize → List ℕ
 sizeText Byte = bytes "BYTE "
 sizeText Word = bytes "WORD "
 
--- "sign and magnitude in two or four digits"
+-- rule 12.4: a displacement within brackets
 abbrev pub signOf : ℤ → ℕ
 signOf (pos n) = 43
 signOf (negsuc n) = 45
@@ -67,16 +66,16 @@ displacementText Displacement.None = []
 displacementText (Displacement.Byte d) = signOf d ∷ hex2 (natAbs d)
 displacementText (Displacement.Word d) = signOf d ∷ hex4 (natAbs d)
 
--- "immediates in two or four digits"
+-- rule 12.4: immediates
 abbrev pub immediateText : Immediate → List ℕ
 immediateText (Immediate.Byte b) = hex2 b
 immediateText (Immediate.Word w) = hex4 w
 
--- "`WORD ES:[1234]`; `BYTE DS:[BX+SI-80]`"
+-- rule 12.4: memory
 abbrev pub memoryText : OperandSize → Segment → List ℕ → List ℕ
 memoryText size segment address = sizeText size ++ (segmentText segment ++ (bytes ":[" ++ (address ++ bytes "]")))
 
--- an operand, by what a displacement prints as
+-- rule 12.4: an operand, by what a displacement prints as
 abbrev pub operandText : (Displacement → List ℕ) → Operand → List ℕ
 operandText asDisplacement (Operand.Direct segment size offset) = memoryText size segment (hex4 offset)
 operandText asDisplacement (Operand.Indirect segment size mode displacement) =
@@ -87,17 +86,17 @@ operandText asDisplacement (Operand.Immediate immediate) = immediateText immedia
 operandText asDisplacement (Operand.Displacement displacement) = asDisplacement displacement
 operandText asDisplacement (Operand.SegmentAndOffset address) = hex4 (address .segment) ++ (bytes ":" ++ hex4 (address .offset))
 
--- "A destination displacement prints as a target": one that stands alone
+-- rule 12.4: a displacement that stands alone prints as its target
 abbrev pub aloneText : ℕ → ℕ → Operand → List ℕ
 aloneText start taken = operandText (λ d. hex4 (targetOf start taken d))
 
--- beside another operand a displacement prints as sign and magnitude, and none as +00; no decode has one there
+-- rule 12.6: beside another operand a displacement prints as sign and magnitude, and none as +00; no decode has one there
 abbrev pub besideText : Displacement → List ℕ
 besideText Displacement.None = bytes "+00"
 besideText (Displacement.Byte d) = displacementText (Displacement.Byte d)
 besideText (Displacement.Word d) = displacementText (Displacement.Word d)
 
--- "if operands, a space and them, joined by `, `": the destination before the source
+-- rule 12.2: the destination before the source
 abbrev pub operandsText : ℕ → ℕ → OperandSet → List ℕ
 operandsText start taken OperandSet.None = []
 operandsText start taken (OperandSet.Destination destination) = bytes " " ++ aloneText start taken destination

@@ -1,4 +1,4 @@
--- A listing is "a line for each step from 0"; a page is as many whole lines of it as fit, from a place on.
+-- A listing has a line for every step, the first at position 0; a page is as many whole lines of it as fit, from a position on.
 use mathlib.Core.Path.{_≡_}
 use mathlib.Core.Bool.{cond}
 use mathlib.Core.List.{List, [], _∷_, _++_}
@@ -9,13 +9,13 @@ use Rattle.mrc_line.specs.declared.page.Page.{Page}
 use Rattle.mrc_line.specs.Target.{offsets}
 use Rattle.mrc_line.specs.Line.{lineText, lineTaken, longest}
 
--- the lines from a place on, each by its place: "the next line starts" behind the bytes taken. There are f of them at most; each takes a
+-- the lines from a position on, each by its position: one stands behind the bytes that the one before took. There are f of them at most; each takes a
 -- byte or more, so an image has no more lines than bytes
 unfoldable pub linesFrom : ℕ → List ℕ → ℕ → List ℕ
 linesFrom zero s at = []
 linesFrom (suc f) s at = cond (ltb at (length s)) (at ∷ linesFrom f s (at + lineTaken s at)) []
 
--- the text of lines, one after the other; the bytes of the image that they account for, and their count
+-- rules 13.1 and 13.2: the text of lines, one after the other; the bytes of the image that they account for, and their count
 abbrev pub textOf : List ℕ → List ℕ → List ℕ
 textOf s [] = []
 textOf s (at ∷ lines) = lineText s at ++ textOf s lines
@@ -28,20 +28,20 @@ abbrev pub takenOf : List ℕ → List ℕ → ℕ
 takenOf s [] = 0
 takenOf s (at ∷ lines) = lineTaken s at + takenOf s lines
 
--- the lines of an image
+-- rule 13.1: the lines of an image
 abbrev pub linesOf : List ℕ → List ℕ
 linesOf s = linesFrom (length s) s 0
 
--- the first lines, as many as fit whole into a room
+-- rule 13.3: the first lines, as many as fit whole into a room
 abbrev pub fitting : List ℕ → ℕ → List ℕ → List ℕ
 fitting s room [] = []
 fitting s room (at ∷ lines) = cond (leb (length (lineText s at)) room) (at ∷ fitting s (room - length (lineText s at)) lines) []
 
--- the lines of a page; an image that is too long has none
+-- rule 13.3: the lines of a page; an image that is too long has none
 unfoldable pub pageOf : List ℕ → ℕ → ℕ → List ℕ
 pageOf s at room = cond (ltb offsets (length s)) [] (fitting s room (linesFrom (length s) s at))
 
--- a page call's answer r, and its buffer before the call and after it
+-- rule 13.3: a page call's answer r, and its buffer before the call and after it
 pub record Paged (s : List ℕ) (at : ℕ) (out : List ℕ) (r : Page) (done : List ℕ) : Type 0 where
   pub len : r .len ≡ length (textOf s (pageOf s at (length out)))
   pub next : r .next ≡ at + takenOf s (pageOf s at (length out))
@@ -50,7 +50,7 @@ pub record Paged (s : List ℕ) (at : ℕ) (out : List ℕ) (r : Page) (done : L
   pub within : r .len ≤ length out
   pub moves : length s ≤ offsets → at < length s → longest ≤ length out → at < r .next
 
--- the pages of an image, one after the other, each from where the one before it ended; f of them at most
+-- rule 13.4: the pages of an image, one after the other, each from where the one before it ended; f of them at most
 unfoldable pub pagesFrom : ℕ → List ℕ → ℕ → ℕ → List ℕ
 pagesFrom zero s at room = []
 pagesFrom (suc f) s at room =

@@ -5,7 +5,7 @@ use Prim.Native.Nat.{ℕ, _+_, _≤_, _/_, _%_}
 use lib.ListN.{length, getD, take, drop}
 pub use Rattle.mrc_names.specs.Text.{bytes, padded}
 
--- "upper-case hex digits": the digit of a number below 16
+-- rule 12.3: the digit of a number below 16
 abbrev pub digitOf : ℕ → ℕ
 digitOf n = getD (bytes "0123456789ABCDEF") n 0
 
@@ -16,19 +16,19 @@ hex2 b = digitOf (b / 16) ∷ digitOf (b % 16) ∷ []
 abbrev pub hex4 : ℕ → List ℕ
 hex4 w = hex2 (w / 256) ++ hex2 (w % 256)
 
--- "each two digits and a space"
+-- rule 12.2: bytes, with a space behind each
 abbrev pub pairs : List ℕ → List ℕ
 pairs [] = []
 pairs (b ∷ l) = hex2 b ++ 32 ∷ pairs l
 
--- "the first seven bytes taken, .. padded to 21 characters"
+-- rule 12.2: how many bytes a line shows, and how wide their field is
 abbrev pub shown : ℕ
 shown = 7
 
 abbrev pub fieldWidth : ℕ
 fieldWidth = 21
 
--- A buffer that held s holds d: the text t, of at most n bytes, stands from `at` on and up to r, and all else is as it was.
+-- Internal: a buffer that held s holds d: the text t, of at most n bytes, stands from `at` on and up to r, and all else is as it was.
 pub record Put (n : ℕ) (s : List ℕ) (at : ℕ) (t : List ℕ) (d : List ℕ) (r : ℕ) : Type 0 where
   pub end : r ≡ at + length t
   pub most : r ≤ at + n

@@ -1,6 +1,7 @@
 // The line call.
 use crate::write::write_line;
 use mrc_instruction::errors::Refusal;
+use mrc_instruction::widths::WORDS;
 use mrc_names::names::table;
 ghost use Rattle.mrc_line.specs.Line.{Listed};
 
@@ -11,9 +12,9 @@ pub enum LineAnswer {
 }
 
 // The most bytes that an image has: one for each offset.
-pub const OFFSETS: usize = 65536;
+pub const OFFSETS: usize = WORDS;
 
-// Writes the line at a place of the image, with its LF, and answers its length and the bytes taken. A refused call changes no byte.
+// Writes the line at a position of the image, with its LF, and answers its length and the bytes taken. A refused call changes no byte.
 pub fn line(image: &[u8], at: usize, out: &mut [u8]) -> LineAnswer
     ensures { λ r. ⌜ Listed (now (image .entry)) at (now (out .entry)) r (now (out .exit)) ⌝ }
 {

@@ -42,7 +42,7 @@ fn put_mode(buf: &mut [u8], at: usize, mode: AddressingMode) -> usize
     }
 }
 
-// Sign and magnitude in two or four digits.
+// A displacement within brackets: its sign, and its absolute value in hex digits.
 pub fn put_displacement(buf: &mut [u8], at: usize, displacement: Displacement) -> usize
     requires { ⌜ at + 5 ≤ length (now buf) ⌝ }
     ensures { λ r. ⌜ Put 5 (now (buf .entry)) at (displacementText displacement) (now (buf .exit)) r ⌝ }

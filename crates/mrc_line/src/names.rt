@@ -2,7 +2,6 @@
 use crate::text::put_bytes;
 use mrc_instruction::operation::Operation;
 use mrc_names::names::letters;
-use mrc_names::places::place;
 ghost use mathlib.Core.Path.{_≡_};
 ghost use Prim.Native.Nat.{_+_, _≤_};
 ghost use lib.ListN.{length, take};
@@ -29,7 +28,7 @@ pub fn put_name(buf: &mut [u8], at: usize, names: &[[u8; 6]; 97], operation: Ope
     requires { ⌜ (at + 6 ≤ length (now buf)) × (now names ≡ nameTable) ⌝ }
     ensures { λ r. ⌜ Put 6 (now (buf .entry)) at (nameOf operation) (now (buf .exit)) r ⌝ }
 {
-    let i = place(operation) as usize;
+    let i = operation.number() as usize;
     let row = names[i];
     let n = letters(row);
     put_letters(buf, at, row, n)

@@ -5,13 +5,13 @@ use crate::write::write_line;
 use mrc_names::names::table;
 ghost use Rattle.mrc_line.specs.Page.{Paged};
 
-// How many bytes were written, and the place at which the next line starts.
+// How many bytes were written, and the position at which the next line starts.
 pub struct Page {
     pub len: usize,
     pub next: usize,
 }
 
-// Writes as many whole lines as fit, from a place of the image on.
+// Writes as many whole lines as fit, from a position of the image on.
 pub fn write_page(image: &[u8], at: usize, out: &mut [u8]) -> Page
     ensures { λ r. ⌜ Paged (now (image .entry)) at (now (out .entry)) r (now (out .exit)) ⌝ }
 {

@@ -129,7 +129,7 @@ pub struct Written {
     pub taken: usize,
 }
 
-// The line of what was decoded at a place of an image.
+// The line of what was decoded at a position of an image.
 pub fn put_step(
     buf: &mut [u8],
     at: usize,

@@ -16,7 +16,7 @@ fn moved(from: u16, d: i16) -> u16
     }
 }
 
-// start + taken + displacement, the sum wrapping at 65,536.
+// The target: start, bytes taken and displacement added, modulo 65,536.
 pub fn target(start: u16, taken: u16, d: Displacement) -> u16
     ensures { λ r. ⌜ r ≡ targetOf start taken d ⌝ }
 {

@@ -1,4 +1,4 @@
-// The pieces of a line, written into a buffer. Each writer takes the place to write at and answers the place after what it wrote.
+// The pieces of a line, written into a buffer. Each writer takes the position to write at and answers the position after what it wrote.
 ghost use mathlib.Core.Path.{_≡_};
 ghost use Prim.Native.Nat.{_+_, _*_, _<_, _≤_};
 ghost use lib.ListN.{length, replicate};

@@ -1,4 +1,4 @@
-// A line at a place that is within the image, written whole or not at all.
+// A line at a position that is within the image, written whole or not at all.
 use crate::line::LineAnswer;
 use crate::step::put_step;
 use crate::text::put_bytes;

@@ -35,7 +35,7 @@ as-long s at out p done g =
     ap length (g .bytes) ∙ length-append (textOf s (pageOf s at (length out))) (drop (p .len) out) ∙ rw (length-drop (p .len) out) (omega (arith, g .len, g .within))
 
 module _ (s : List ℕ) (short : length s ≤ offsets) where
-  -- the lines from a place on are those of the page and those from the page's end on
+  -- the lines from a position on are those of the page and those from the page's end on
   split :
       (at room : ℕ) → at < length s → longest ≤ room →
       textOf s (linesFrom (length s) s at) ≡ textOf s (pageOf s at room) ++ textOf s (linesFrom (length s) s (at + takenOf s (pageOf s at room)))
@@ -82,7 +82,7 @@ module _ (s : List ℕ) (short : length s ≤ offsets) where
           subst (Writes s at out) (joined at out p done k (l, g))
           (page {done = done} {p = p} (l, g) (again (p .next) done (omega arith) (omega (arith, as-long s at out p done g))))
 
--- exactly one answer and buffer meet the promise of a turn: by whether the image has a byte at the place
+-- exactly one answer and buffer meet the promise of a turn: by whether the image has a byte at the position
 pub settled : (s : List ℕ) (at : ℕ) (out : List ℕ) → ExactlyOne {A = Turn × List ℕ} (λ p. Turned s at out (p .0) (p .1))
 settled s at out = go (ltb at (length s)) refl
   where

@@ -1,4 +1,4 @@
--- What the reads of an input come to: an image, where it has at most 65,536 bytes, however many reads they come in.
+-- Rule 14.1: what the reads of an input come to: an image, where it has at most 65,536 bytes, however many reads they come in.
 use mathlib.Core.Path.{_≡_}
 use mathlib.Core.Bool.{cond}
 use Prim.Native.Nat.{ℕ, _+_, _-_, _≤_}
@@ -20,17 +20,17 @@ afterRead there (pos k) =
 abbrev pub wantedOf : ℕ → ℕ
 wantedOf there = offsets + 1 - there
 
--- what an input of n bytes is
+-- rules 14.2 and 14.3: what an input of n bytes is
 abbrev pub inputOf : ℕ → Input
 inputOf n = cond (ltb offsets n) Input.TooLong (Input.Image n)
 
--- an image has a byte for each offset at most
+-- Internal: an image has a byte for each offset at most
 abbrev pub Fits : Input → Type 0
 Fits (Input.Image n) = n ≤ offsets
 Fits Input.TooLong = Unit {0}
 Fits Input.Failed = Unit {0}
 
--- of an input of n bytes k come where so many are there: no more than were asked for, and none only where all are there
+-- rule 14.1: of an input of n bytes k come where so many are there: no more than were asked for, and none only where all are there
 pub record Comes (n there k : ℕ) : Type 0 where
   pub within : there + k ≤ n
   pub asked : k ≤ wantedOf there

@@ -74,7 +74,7 @@ fn cannot_write() {
     io::write_all(STDERR_FILENO, b"list: cannot write standard output\n");
 }
 
-// Lists the image that standard input holds, a line for each step from 0. For an input that is too long it says only that.
+// Lists the image that standard input holds. For an input that is too long it says only that.
 pub fn list() {
     let mut image = [0u8; 65537];
     match read_input(&mut image) {

@@ -11,13 +11,13 @@ pub fn too_long() -> [u8; 9]
     *b"TOO LONG\n"
 }
 
-// A page to write, with the place at which the next one starts; or every page is written.
+// A page to write, with the position at which the next one starts; or every page is written.
 pub enum Turn {
     Page(Page),
     Finished,
 }
 
-// Makes the page that starts at a place of the image, while the image has a byte there.
+// Makes the page that starts at a position of the image, while the image has a byte there.
 pub fn next_page(image: &[u8], at: usize, out: &mut [u8]) -> Turn
     ensures { λ r. ⌜ Turned (now (image .entry)) at (now (out .entry)) r (now (out .exit)) ⌝ }
 {

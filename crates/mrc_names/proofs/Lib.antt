@@ -1,4 +1,4 @@
 pub mod Trimmed
-pub mod Placed
 pub mod Rows
+pub mod Distinct
 pub mod Main

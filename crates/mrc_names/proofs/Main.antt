@@ -1,29 +1,22 @@
 -- What is shown of the names. Each promise is an equation, so exactly one answer meets it (`an-equation-settles` of mrc_instruction).
 -- Assumes nothing.
-use mathlib.Core.Path.{_≡_, refl}
+use mathlib.Core.Path.{_≡_}
 use mathlib.Core.List.{[]}
-use Prim.Native.Nat.{ℕ, _<_}
 use lib.ListN.{length, getD}
 use Rattle.mrc_instruction.specs.declared.operation.Operation.{Operation}
+use Rattle.mrc_instruction.specs.Operation.{operationNumber}
 use Rattle.mrc_names.specs.Text.{trimmed}
-use Rattle.mrc_names.specs.Names.{operations, nameOf, rowOf, nameTable}
-use Rattle.mrc_names.specs.Places.{placeOf}
-use Rattle.mrc_names.proofs.Placed as Placed
+use Rattle.mrc_names.specs.Names.{nameOf, rowOf, nameTable}
 use Rattle.mrc_names.proofs.Rows as Rows
+use Rattle.mrc_names.proofs.Distinct as Distinct
 
--- each operation has a place of its own among the 97, and they are in order
-pub within : (o : Operation) → placeOf o < 97
-within = Placed.within
+-- no two operations have the same name
+pub own-name : (o p : Operation) → nameOf o ≡ nameOf p → o ≡ p
+own-name = Distinct.own-name
 
-pub own-place : (o p : Operation) → placeOf o ≡ placeOf p → o ≡ p
-own-place = Placed.own
-
-pub in-order : (i : ℕ) → i < 97 → i ≡ placeOf (getD operations i Operation.MOV)
-in-order i h = Placed.here i h refl
-
--- "Every name is padded to six letters in the name table and printed without the padding": its row there has six letters, and is the name
-pub row-at-place : (o : Operation) → getD nameTable (placeOf o) [] ≡ rowOf o
-row-at-place = Rows.row-at
+-- rule 11.1: a name's row in the table has six letters, and without its spaces it is the name
+pub row-at-number : (o : Operation) → getD nameTable (operationNumber o) [] ≡ rowOf o
+row-at-number = Rows.row-at
 
 pub six-letters : (o : Operation) → length (rowOf o) ≡ 6
 six-letters = Rows.six

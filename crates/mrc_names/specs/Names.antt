@@ -1,21 +1,12 @@
--- The operations in order, their names, and the name table.
-use mathlib.Core.List.{List, [], _∷_, map}
+-- The operations' names, and the name table.
+use mathlib.Core.List.{List, map}
 use Prim.Native.Nat.{ℕ}
 use Rattle.mrc_instruction.specs.declared.operation.Operation.{Operation}
 use Rattle.mrc_instruction.specs.declared.operation.Operation.the-variants.{MOV, PUSH, POP, XCHG, IN, OUT, XLATB, LEA, LDS, LES, LAHF, SAHF, PUSHF, POPF, ADD, ADC, INC, AAA, DAA, SUB, SBB, DEC, NEG, CMP, AAS, DAS, MUL, IMUL, AAM, DIV, IDIV, AAD, CBW, CWD, NOT, SHL, SHR, SAR, ROL, ROR, RCL, RCR, AND, TEST, OR, XOR, MOVSB, MOVSW, CMPSB, CMPSW, SCASB, SCASW, LODSB, LODSW, STOSB, STOSW, CALL, JMP, RET, JE, JL, JLE, JB, JBE, JP, JO, JS, JNE, JNL, JNLE, JNB, JNBE, JNP, JNO, JNS, LOOP, LOOPZ, LOOPNZ, JCXZ, INT, INT1, INT3, INTO, IRET, CLC, CMC, STC, CLD, STD, CLI, STI, HLT, WAIT, ESC, LOCK, NOP, SALC}
+use Rattle.mrc_instruction.specs.Operation.{operations}
 use Rattle.mrc_names.specs.Text.{bytes, padded}
 
--- the operations in order
-abbrev pub operations : List Operation
-operations =
-    MOV ∷ PUSH ∷ POP ∷ XCHG ∷ IN ∷ OUT ∷ XLATB ∷ LEA ∷ LDS ∷ LES ∷ LAHF ∷ SAHF ∷ PUSHF ∷ POPF ∷ ADD ∷ ADC ∷ INC ∷ AAA
-    ∷ DAA ∷ SUB ∷ SBB ∷ DEC ∷ NEG ∷ CMP ∷ AAS ∷ DAS ∷ MUL ∷ IMUL ∷ AAM ∷ DIV ∷ IDIV ∷ AAD ∷ CBW ∷ CWD ∷ NOT ∷ SHL ∷ SHR
-    ∷ SAR ∷ ROL ∷ ROR ∷ RCL ∷ RCR ∷ AND ∷ TEST ∷ OR ∷ XOR ∷ MOVSB ∷ MOVSW ∷ CMPSB ∷ CMPSW ∷ SCASB ∷ SCASW ∷ LODSB
-    ∷ LODSW ∷ STOSB ∷ STOSW ∷ CALL ∷ JMP ∷ RET ∷ JE ∷ JL ∷ JLE ∷ JB ∷ JBE ∷ JP ∷ JO ∷ JS ∷ JNE ∷ JNL ∷ JNLE ∷ JNB ∷ JNBE
-    ∷ JNP ∷ JNO ∷ JNS ∷ LOOP ∷ LOOPZ ∷ LOOPNZ ∷ JCXZ ∷ INT ∷ INT1 ∷ INT3 ∷ INTO ∷ IRET ∷ CLC ∷ CMC ∷ STC ∷ CLD ∷ STD
-    ∷ CLI ∷ STI ∷ HLT ∷ WAIT ∷ ESC ∷ LOCK ∷ NOP ∷ SALC ∷ []
-
--- "the name": each operation's name, as it is printed
+-- rule 11.1: each operation's name, as a line has it
 abbrev pub nameOf : Operation → List ℕ
 nameOf MOV = bytes "MOV"
 nameOf PUSH = bytes "PUSH"
@@ -115,7 +106,7 @@ nameOf LOCK = bytes "LOCK"
 nameOf NOP = bytes "NOP"
 nameOf SALC = bytes "SALC"
 
--- "Every name is padded to six letters in the name table": a row of it, and the table
+-- rule 11.1: a row of the name table, and the table
 abbrev pub rowOf : Operation → List ℕ
 rowOf o = padded 6 (nameOf o)
 

@@ -12,11 +12,11 @@ abbrev pub bytes : String → List ℕ
 bytes ε = []
 bytes (c ◂ s) = code c ∷ bytes s
 
--- "padded to" a number of characters
+-- with spaces behind, up to a number of characters
 abbrev pub padded : ℕ → List ℕ → List ℕ
 padded n t = t ++ replicate (n - length t) 32
 
--- "without the padding": what stands before the first space
+-- the letters alone: what stands before the first space
 abbrev pub trimmed : List ℕ → List ℕ
 trimmed [] = []
 trimmed (x ∷ l) = cond (eqb x 32) [] (x ∷ trimmed l)

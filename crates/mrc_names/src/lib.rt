@@ -1,3 +1,2 @@
-// The operations' names, padded and measured, and each operation's place among them.
+// The operations' names, padded and measured.
 pub mod names;
-pub mod places;

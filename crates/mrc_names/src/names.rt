@@ -4,7 +4,7 @@ ghost use lib.ListN.{length};
 ghost use Rattle.mrc_names.specs.Text.{trimmed};
 ghost use Rattle.mrc_names.specs.Names.{nameTable};
 
-// Every name, padded to six letters.
+// Every operation's name at its number, padded to six letters.
 const NAMES: [[u8; 6]; 97] = [
     *b"MOV   ",
     *b"PUSH  ",

@@ -10,7 +10,7 @@ use native.Mathlib.Omega.{arith}
 use Rattle.mrc_line.proofs.Put.{then, none, gives}
 use Rattle.mrc_line.specs.Text.{hex2, hex4}
 use Rattle.mrc_line.specs.Operands.{signOf, displacementText}
-use Rattle.mrc_line.proofs.Signed.{byte-widens, byte-wide, byte-magnitude}
+use Rattle.mrc_line.proofs.Magnitudes.{widens, wide, byte-magnitude}
 use borrow.Author.Needs.{needs}
 use Rattle.mrc_line.proofs.memory.put_displacement.Statement.{statement}
 use Rattle.mrc_line.proofs.memory.put_displacement.Tie as tie
@@ -22,7 +22,7 @@ enum-known-displacement : tie.Need-enum-known-displacement
 enum-known-displacement c = search needs
 
 cast-wide : tie.Need-cast-wide
-cast-wide c = byte-widens (c .before .displacement .given .0 .0) (search needs)
+cast-wide c = widens w8 w16 tt (c .before .displacement .given .0 .0) (search needs)
 
 sign-requires : tie.Need-sign-requires
 sign-requires c κs = search needs
@@ -37,7 +37,7 @@ cast-put-hex2 : tie.Need-cast-put-hex2
 cast-put-hex2 c =
     let d = c .before .before .before .before .before .before .before .before .displacement .given .0 .0 in
     let s : SFits w8 d = search needs in
-    rw (c .magnitude .ensures ∙ ap natAbs (byte-wide d s)) (byte-magnitude d s)
+    rw (c .magnitude .ensures ∙ ap natAbs (wide w8 w16 tt d s)) (byte-magnitude d s)
 
 put-hex2-requires : tie.Need-put-hex2-requires
 put-hex2-requires c κs = search needs
@@ -66,7 +66,7 @@ same-length c = search needs
 returns-2 : tie.Need-returns-2
 returns-2 c =
     let d = c .before .before .before .before .before .before .before .before .before .before .before .displacement .given .0 .0 in
-    let e = byte-wide d (search needs) in
+    let e = wide w8 w16 tt d (search needs) in
     gives (omega arith) (ap (λ x. x ∷ hex2 (c .before .before .before .magnitude .result)) (c .before .before .before .before .before .before .before .before .sign .ensures ∙ ap signOf e) ∙ ap (λ x. signOf d ∷ hex2 x) (c .before .before .before .magnitude .ensures ∙ ap natAbs e) ∙ sym (ap displacementText (c .before .before .before .before .before .before .before .before .before .before .before .displacement .given .1)))
     (then (c .before .before .before .before .before .before .before .put-byte .ensures) (c .before .before .put-hex2 .ensures))
 

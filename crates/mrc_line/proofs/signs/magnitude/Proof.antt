@@ -2,27 +2,28 @@
 -- Assumes nothing.
 use mathlib.Core.Path.{ap}
 use lib.IntN.{natAbs}
-use Rattle.mrc_line.proofs.Signed.{below, above, word-widens, word-wide}
+use mir.Syntax.{w16, w32}
+use Rattle.mrc_line.proofs.Magnitudes.{below, above, widens, wide}
 use Rattle.mrc_line.proofs.signs.magnitude.Statement.{statement}
 use Rattle.mrc_line.proofs.signs.magnitude.Tie as tie
 
 cast-wide : tie.Need-cast-wide
-cast-wide c = word-widens (c .args .d) (c .fits .d)
+cast-wide c = widens w16 w32 tt (c .args .d) (c .fits .d)
 
 sub-result : tie.Need-sub-result
-sub-result c = let e = word-wide (c .before .args .d) (c .before .fits .d) in rw e (below (c .before .args .d) (c .before .fits .d) (rw e at (c .if1 .taken)) .size)
+sub-result c = let e = wide w16 w32 tt (c .before .args .d) (c .before .fits .d) in rw e (below (c .before .args .d) (c .before .fits .d) (rw e at (c .if1 .taken)) .size)
 
 cast-result : tie.Need-cast-result
-cast-result c = let e = word-wide (c .before .args .d) (c .before .fits .d) in rw e (below (c .before .args .d) (c .before .fits .d) (rw e at (c .if1 .taken)) .fits)
+cast-result c = let e = wide w16 w32 tt (c .before .args .d) (c .before .fits .d) in rw e (below (c .before .args .d) (c .before .fits .d) (rw e at (c .if1 .taken)) .fits)
 
 cast-result-2 : tie.Need-cast-result-2
-cast-result-2 c = let e = word-wide (c .before .args .d) (c .before .fits .d) in rw e (above (c .before .args .d) (c .before .fits .d) (rw e at (c .if1 .left)) .fits)
+cast-result-2 c = let e = wide w16 w32 tt (c .before .args .d) (c .before .fits .d) in rw e (above (c .before .args .d) (c .before .fits .d) (rw e at (c .if1 .left)) .fits)
 
 returns : tie.Need-returns
-returns c = let e = word-wide (c .before .args .d) (c .before .fits .d) in rw e (below (c .before .args .d) (c .before .fits .d) (rw e at (c .if1 .taken)) .is)
+returns c = let e = wide w16 w32 tt (c .before .args .d) (c .before .fits .d) in rw e (below (c .before .args .d) (c .before .fits .d) (rw e at (c .if1 .taken)) .is)
 
 returns-2 : tie.Need-returns-2
-returns-2 c = ap natAbs (word-wide (c .before .args .d) (c .before .fits .d))
+returns-2 c = ap natAbs (wide w16 w32 tt (c .before .args .d) (c .before .fits .d))
 
 pub magnitude-spec : {M : Type 1} → statement M
 magnitude-spec =

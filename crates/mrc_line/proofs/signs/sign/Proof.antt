@@ -1,7 +1,7 @@
 -- Each arm knows on which side of 0 the number is.
 -- Assumes nothing.
 use mir.Facts.{toZ-ofZ}
-use Rattle.mrc_line.proofs.Signed.{below, above}
+use Rattle.mrc_line.proofs.Magnitudes.{below, above}
 use Rattle.mrc_line.proofs.signs.sign.Statement.{statement}
 use Rattle.mrc_line.proofs.signs.sign.Tie as tie
 

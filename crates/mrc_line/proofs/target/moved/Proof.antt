@@ -4,7 +4,7 @@ use mathlib.Core.Path.{_≡_, ap, _∙_}
 use native.Mathlib.Omega.{arith}
 use lib.IntN.{natAbs}
 use mir.Facts.{toZ-ofZ}
-use Rattle.mrc_line.proofs.Signed.{below, above}
+use Rattle.mrc_line.proofs.Magnitudes.{below, above}
 use borrow.Author.Needs.{needs}
 use Rattle.mrc_line.proofs.target.moved.Statement.{statement}
 use Rattle.mrc_line.proofs.target.moved.Tie as tie

@@ -6,7 +6,7 @@ use mir.Val.{SFits}
 use mir.Facts.{toZ-ofZ, sfits-widen}
 use Prim.Native.Nat.{ℕ, _+_}
 use Rattle.mrc_line.specs.Target.{movedBy, targetOf}
-use Rattle.mrc_line.proofs.Signed.{byte-widens, byte-wide, wrapped}
+use Rattle.mrc_line.proofs.Magnitudes.{widens, wide, wrapped}
 use borrow.Author.Needs.{needs}
 use Rattle.mrc_line.proofs.target.target.Statement.{statement}
 use Rattle.mrc_line.proofs.target.target.Tie as tie
@@ -21,7 +21,7 @@ enum-known-d : tie.Need-enum-known-d
 enum-known-d c = search needs
 
 cast-moved : tie.Need-cast-moved
-cast-moved c = byte-widens (c .before .d .given .0 .0) (search needs)
+cast-moved c = widens w8 w16 tt (c .before .d .given .0 .0) (search needs)
 
 moved-requires : tie.Need-moved-requires
 moved-requires c κs = search needs
@@ -39,7 +39,7 @@ returns-2 : tie.Need-returns-2
 returns-2 c =
     let d = c .before .before .d .given in
     let s : SFits w8 (d .0 .0) = search needs in
-    c .moved .ensures ∙ ap (movedBy (c .before .before .before .before .wrapping-add-u16 .result)) (byte-wide (d .0 .0) s) ∙ ap (λ (n : ℕ). movedBy n (d .0 .0)) (c .before .before .before .before .wrapping-add-u16 .ensures) ∙ wrapped (c .before .before .before .before .before .args .start + c .before .before .before .before .before .args .taken) (d .0 .0) (sfits-widen {w = w8} {w′ = w16} tt s) ∙ sym (ap (targetOf (c .before .before .before .before .before .args .start) (c .before .before .before .before .before .args .taken)) (d .1))
+    c .moved .ensures ∙ ap (movedBy (c .before .before .before .before .wrapping-add-u16 .result)) (wide w8 w16 tt (d .0 .0) s) ∙ ap (λ (n : ℕ). movedBy n (d .0 .0)) (c .before .before .before .before .wrapping-add-u16 .ensures) ∙ wrapped (c .before .before .before .before .before .args .start + c .before .before .before .before .before .args .taken) (d .0 .0) (sfits-widen {w = w8} {w′ = w16} tt s) ∙ sym (ap (targetOf (c .before .before .before .before .before .args .start) (c .before .before .before .before .before .args .taken)) (d .1))
 
 returns-3 : tie.Need-returns-3
 returns-3 c =

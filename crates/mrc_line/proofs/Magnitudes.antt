@@ -1,5 +1,5 @@
--- A displacement of 16 bits at 32 bits, where that of -32,768 has a magnitude too: its bits read back as the number, and the magnitude moves
--- an offset up or down.
+-- A displacement at a wider width, where that of -32,768 has a magnitude too: its bits read back as the number, and the magnitude moves an offset
+-- up or down.
 -- Assumes nothing.
 use Prim.Native.Nat.{ℕ, suc, _+_, _-_, _%_, _<_, _^_}
 use mathlib.Core.Path.{_≡_, refl}
@@ -7,21 +7,22 @@ use mathlib.Core.Bool.{true, false}
 use native.Mathlib.Omega.{arith}
 use borrow.Author.Needs.{sfits-of}
 use borrow.Author.Tests.{ltb-true}
-use lib.Dec.{T}
+use lib.Dec.{T, leb}
 use lib.IntN.{ℤ, pos, negsuc, natAbs, _-ℤ_}
 use lib.Signed.{ltZ, nonNeg}
-use mir.Syntax.{w8, w16, w32}
-use mir.Val.{toZ, ofZ, SFits, Fits}
+use mir.Syntax.{Width, w8, w16, w32}
+use mir.Val.{toZ, ofZ, SFits, Fits, hbits}
 use mir.Facts.{toZ-ofZ, sfits-widen}
 use Rattle.mrc_line.specs.Target.{movedBy, offsets}
 use Rattle.mrc_line.specs.Operands.{signOf}
 
--- a byte at 16 bits, and a word at 32
-pub byte-widens : (d : ℤ) → SFits w8 d → SFits w16 (toZ w8 (ofZ w8 d))
-byte-widens d s = rw (toZ-ofZ s) (sfits-widen {w = w8} {w′ = w16} tt s)
+-- the bits at a wider width, a byte's at 16 bits and a word's at 32
+module _ (w wider : Width) (le : T (leb (hbits w) (hbits wider))) (d : ℤ) (s : SFits w d) where
+  pub widens : SFits wider (toZ w (ofZ w d))
+  widens = rw (toZ-ofZ s) (sfits-widen {w = w} {w′ = wider} le s)
 
-pub byte-wide : (d : ℤ) → SFits w8 d → toZ w16 (ofZ w16 (toZ w8 (ofZ w8 d))) ≡ d
-byte-wide d s = rw (toZ-ofZ s) (toZ-ofZ (sfits-widen {w = w8} {w′ = w16} tt s))
+  pub wide : toZ wider (ofZ wider (toZ w (ofZ w d))) ≡ d
+  wide = rw (toZ-ofZ s) (toZ-ofZ (sfits-widen {w = w} {w′ = wider} le s))
 
 byte-below : (d : ℤ) → SFits w8 d → natAbs d < 256
 byte-below (pos n) s = let h : n < 128 = s .sfits in omega arith
@@ -29,12 +30,6 @@ byte-below (negsuc n) s = let h : n < 128 = s .sfits in omega arith
 
 pub byte-magnitude : (d : ℤ) → SFits w8 d → Fits w8 (natAbs d)
 byte-magnitude d s = record { fits = byte-below d s }
-
-pub word-widens : (d : ℤ) → SFits w16 d → SFits w32 (toZ w16 (ofZ w16 d))
-word-widens d s = rw (toZ-ofZ s) (sfits-widen {w = w16} {w′ = w32} tt s)
-
-pub word-wide : (d : ℤ) → SFits w16 d → toZ w32 (ofZ w32 (toZ w16 (ofZ w16 d))) ≡ d
-word-wide d s = rw (toZ-ofZ s) (toZ-ofZ (sfits-widen {w = w16} {w′ = w32} tt s))
 
 -- below 0: the number that is 0 less it
 pub record Below (d : ℤ) : Type 0 where
