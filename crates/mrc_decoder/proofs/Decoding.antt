@@ -11,20 +11,19 @@ use native.Mathlib.Omega.{arith}
 use lib.ListN.{length, getD, drop, length-drop}
 use borrow.Author.Tests.{le-leb, lt-leb, eq-eqb, ne-eqb}
 use Rattle.mrc_instruction.specs.declared.errors.Refusal.{Refusal}
-use Rattle.mrc_instruction.specs.declared.operand.OperandSize.{OperandSize}
 use Rattle.mrc_rules.specs.declared.Answer.{Answer}
 use Rattle.mrc_decoder.specs.declared.form.OpcodeAlone.{OpcodeAlone}
-use Rattle.mrc_decoder.specs.declared.form.WithModRM.{WithModRM}
-use Rattle.mrc_decoder.specs.Form.{Agrees, Meaning, overrides, repeats, reads, nothing, meaningOf, aloneRow, modRMMeant, modRMReader}
-use Rattle.mrc_instruction.specs.Reader.{readFrom}
+use Rattle.mrc_decoder.specs.Form.{Meaning, overrides, repeats, reads, meaningOf, aloneRow}
+use Rattle.mrc_instruction.specs.Reader.{Outcome, got, stopped, readFrom}
+use Rattle.mrc_forms.specs.declared.answers.FormRead.{FormRead}
 use Rattle.mrc_instruction.proofs.Rest.{here, none}
-use Rattle.mrc_rules.specs.Forms.{Row}
+use Rattle.mrc_rules.specs.Forms.{Tail, Row, rest}
 use Rattle.mrc_rules.specs.Table.{rowOf}
 use Rattle.mrc_rules.specs.Prefixes.{isOverride, isRepeat, isPrefix, repeatOf}
 use Rattle.mrc_rules.specs.Decode.{decodeBy, decodeAt, rules}
-use Rattle.mrc_forms.specs.Answers.{behind, readBy}
+use Rattle.mrc_forms.specs.Answers.{afterOpcode, formRead, readBy}
 use Rattle.mrc_decoder.specs.Prefixes.{Small, underOverride, withRepeat, tooMany, pastEnd}
-use Rattle.mrc_decoder.proofs.ModRM.{modrm-agrees}
+use Rattle.mrc_decoder.specs.Decode.{endOf, answerAt}
 use Rattle.mrc_decoder.proofs.Steps.{step-end, step-tail, step-over, override-prefix, repeat-prefix}
 use Rattle.mrc_decoder.proofs.Wrapping.{override-wraps, repeat-wraps}
 use Rattle.mrc_rules.proofs.Counting.{taken-there, prefixes-there}
@@ -34,7 +33,6 @@ abbrev Says : ℕ → Meaning → Type 0
 Says b overrides = isOverride b ≡ true
 Says b repeats = isRepeat b ≡ true
 Says b (reads row) = (isPrefix b ≡ false) × (row ≡ rowOf b)
-Says b nothing = ⊥
 
 meaning-says : (b : ℕ) → Says b (meaningOf b)
 meaning-says b = go (isOverride b) (isRepeat b) refl refl
@@ -58,12 +56,24 @@ pub at-end : (s : List ℕ) (at n : ℕ) → length s ≡ at → Answer.Refused 
 at-end s at n h = sym (inside s at n (omega arith) ∙ ap (decodeBy rules n) (none s at (omega arith)) ∙ step-end rules n)
 
 -- a form that is its opcode alone reads nothing, wherever that stands
-pub alone-anywhere : (form : OpcodeAlone) (byte : ℕ) (l : List ℕ) → readBy byte (aloneRow form byte) [] ≡ readBy byte (aloneRow form byte) l
-alone-anywhere (OpcodeAlone.Bare op) byte l = refl
-alone-anywhere (OpcodeAlone.OnSegment op) byte l = refl
-alone-anywhere OpcodeAlone.Exchange byte l = refl
-alone-anywhere OpcodeAlone.InDx byte l = refl
-alone-anywhere OpcodeAlone.OutDx byte l = refl
+pub alone-anywhere : (form : OpcodeAlone) (byte at : ℕ) (l : List ℕ) → readBy byte (aloneRow form byte) at [] ≡ readBy byte (aloneRow form byte) at l
+alone-anywhere (OpcodeAlone.Bare op) byte at l = refl
+alone-anywhere (OpcodeAlone.OnSegment op) byte at l = refl
+alone-anywhere OpcodeAlone.Exchange byte at l = refl
+alone-anywhere OpcodeAlone.InDx byte at l = refl
+alone-anywhere OpcodeAlone.OutDx byte at l = refl
+
+-- what is read behind the opcode at a position, as the decoder answers it; and the position behind that
+taken-at : (at n : ℕ) → at + 1 + n - at ≡ suc n
+taken-at at n = omega arith
+
+answered-at : (at : ℕ) (o : Outcome Tail) → answerAt at (formRead (at + 1) o) ≡ afterOpcode o
+answered-at at (got i n) = rw (taken-at at n)
+answered-at at (stopped e n) = rw (taken-at at n)
+
+ended-at : (at : ℕ) (o : Outcome Tail) → at ≤ endOf (formRead (at + 1) o)
+ended-at at (got i n) = omega arith
+ended-at at (stopped e n) = omega arith
 
 pub past-end : (s : List ℕ) (at n : ℕ) → length s ≤ at → pastEnd (length s) at ≡ decodeAt s at n
 past-end s at n h =
@@ -76,23 +86,19 @@ module _ (s : List ℕ) (at n : ℕ) (h : at < length s) where
   start : decodeAt s at n ≡ decodeBy rules n (getD s at 0 ∷ drop (at + 1) s)
   start = inside s at n (omega arith) ∙ ap (decodeBy rules n) (here s at h)
 
-  pub no-prefix : {row : Row} {d : Answer} → reads row ≡ meaningOf (getD s at 0) → d ≡ readBy (getD s at 0) row (drop (at + 1) s) → d ≡ decodeAt s at n
-  no-prefix {row} e f =
-      let said = says (getD s at 0) (reads row) e in
-      f
-      ∙ ap (λ (r : Row). readBy (getD s at 0) r (drop (at + 1) s)) (said .1)
-      ∙ sym (start ∙ step-tail rules n (getD s at 0) (drop (at + 1) s) (said .0))
+  -- what a byte that reads by a row is read as: the position behind it is past the byte, and it is the answer
+  pub ends-behind : {row : Row} {r : FormRead} → reads row ≡ meaningOf (getD s at 0) → r ≡ readBy (getD s at 0) row (at + 1) (drop (at + 1) s) → at ≤ endOf r
+  ends-behind {row} e f = rw f (ended-at at (readFrom (rest (getD s at 0) row) (drop (at + 1) s)))
 
-  -- a form with a ModRM
-  pub no-prefix-modrm : (form : WithModRM) (size : OperandSize) {d : Answer} → modRMMeant form size (getD s at 0) ≡ meaningOf (getD s at 0)
-      → d ≡ behind (readFrom (modRMReader form size (getD s at 0)) (drop (at + 1) s)) → d ≡ decodeAt s at n
-  no-prefix-modrm form size {d} e f = go (modRMMeant form size (getD s at 0)) e (modrm-agrees form size (getD s at 0))
-    where
-      go : (m : Meaning) → m ≡ meaningOf (getD s at 0) → Agrees (getD s at 0) m (modRMReader form size (getD s at 0)) → d ≡ decodeAt s at n
-      go overrides e a = absurd a
-      go repeats e a = absurd a
-      go (reads row) e a = no-prefix e (f ∙ ap behind (sym (a (drop (at + 1) s))))
-      go nothing e a = absurd (says (getD s at 0) nothing e)
+  pub no-prefix : {row : Row} {r : FormRead} {d : Answer} → reads row ≡ meaningOf (getD s at 0) → r ≡ readBy (getD s at 0) row (at + 1) (drop (at + 1) s)
+      → d ≡ answerAt at r → d ≡ decodeAt s at n
+  no-prefix {row} e f g =
+      let said = says (getD s at 0) (reads row) e in
+      g
+      ∙ ap (answerAt at) f
+      ∙ answered-at at (readFrom (rest (getD s at 0) row) (drop (at + 1) s))
+      ∙ ap (λ (x : Row). afterOpcode (readFrom (rest (getD s at 0) x) (drop (at + 1) s))) (said .1)
+      ∙ sym (start ∙ step-tail rules n (getD s at 0) (drop (at + 1) s) (said .0))
 
   over : isPrefix (getD s at 0) ≡ true → n ≡ 0 → tooMany (getD s at 0) ≡ decodeAt s at n
   over e z =

@@ -5,21 +5,13 @@ use Prim.Native.Nat.{ℕ, _+_, min}
 use mathlib.Core.Path.{_≡_, ap, _∙_}
 use mathlib.Core.List.{List}
 use lib.ListN.{length, drop}
-use Rattle.mrc_instruction.specs.declared.operand.OperandSize.{OperandSize}
 use Rattle.mrc_rules.specs.declared.Answer.{Answer}
 use Rattle.mrc_rules.specs.Answer.{prefixes}
 use Rattle.mrc_rules.specs.Prefixes.{runOf}
 use Rattle.mrc_rules.specs.Decode.{decodeAt}
 use Rattle.mrc_rules.proofs.Counting.{prefix-count}
-use Rattle.mrc_decoder.specs.declared.form.WithModRM.{WithModRM}
-use Rattle.mrc_decoder.specs.Form.{Agrees, modRMMeant, modRMReader}
-use Rattle.mrc_decoder.proofs.ModRM.{modrm-agrees}
 
 -- the prefixes of every answer are the leading prefix bytes, up to one more than the budget
 pub prefixes-settled : (s : List ℕ) (at budget : ℕ) (r : Answer) → r ≡ decodeAt s at budget
     → prefixes r ≡ min (length (runOf (drop at s))) (budget + 1)
 prefixes-settled s at budget r e = ap prefixes e ∙ prefix-count s at budget
-
--- what the decoder reads of a form with a ModRM, by the operand and the byte alone, is what the row reads that the form means
-pub modrm-by-rows : (form : WithModRM) (size : OperandSize) (opcode : ℕ) → Agrees opcode (modRMMeant form size opcode) (modRMReader form size opcode)
-modrm-by-rows = modrm-agrees

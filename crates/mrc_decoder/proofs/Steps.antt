@@ -14,57 +14,29 @@ use Rattle.mrc_instruction.specs.declared.instruction.Repeated.{Repeated}
 use Rattle.mrc_instruction.specs.declared.instruction.Instruction.{Instruction}
 use Rattle.mrc_instruction.specs.declared.errors.Refusal.{Refusal}
 use Rattle.mrc_rules.specs.declared.Answer.{Answer}
-use Rattle.mrc_instruction.specs.Reader.{Reader, done, refuse, next, _>>=_, Outcome, got, stopped, takenBy, more, readFrom}
+use Rattle.mrc_instruction.specs.Reader.{Outcome, got, stopped, takenBy}
 use Rattle.mrc_rules.specs.Forms.{Tail}
 use Rattle.mrc_rules.specs.Prefixes.{isOverride, isRepeat, isPrefix, runOf, tailOf, first, repeatOf, Result, reads, refuses, made}
 use Rattle.mrc_rules.specs.Decode.{Rules, answer, tail, resultOf, together, decodeBy}
 use Rattle.mrc_forms.specs.Answers.{alone}
 use Rattle.mrc_decoder.specs.Prefixes.{refusalUnder, resultUnder, resultRepeated, wrapped, underOverrideBy, withRepeat, tooMany}
-use Rattle.mrc_rules.proofs.Strike.{override-no-repeat, repeat-no-override}
+use Rattle.mrc_rules.proofs.Striking.{override-no-repeat, repeat-no-override}
 
 -- a refusal that an override turns into its own: every one but TooManyPrefixes
 abbrev pub Turned : Refusal → Type 0
 Turned e = (o : ℕ) → refusalUnder o e ≡ Refusal.InvalidPrefix o
 
--- a reader that refuses with no other, and ends in what is such
-abbrev pub Plain : {A : Type 0} → (A → Type 0) → Reader A → Type 0
-Plain P (done a) = P a
-Plain P (refuse e) = Turned e
-Plain P (next k) = (b : ℕ) → Plain P (k b)
-
-abbrev pub Any : {A : Type 0} → A → Type 0
-Any a = Unit {0}
-
-module _ {A : Type 0} (P : A → Type 0) where
-  abbrev pub Stops : Outcome A → Type 0
-  Stops (got a n) = P a
-  Stops (stopped e n) = Turned e
-
-  stops-more : (t : Outcome A) → Stops t → Stops (more t)
-  stops-more (got a n) h = h
-  stops-more (stopped e n) h = h
-
-  pub plain-stops : (m : Reader A) (l : List ℕ) → Plain P m → Stops (readFrom m l)
-  plain-stops (done a) l h = h
-  plain-stops (refuse e) l h = h
-  plain-stops (next k) [] h = λ o. refl
-  plain-stops (next k) (b ∷ l) h = stops-more (readFrom (k b) l) (plain-stops (k b) l (h b))
-
-  pub plain-cond : (t : Bool) (x y : Reader A) → Plain P x → Plain P y → Plain P (cond t x y)
-  plain-cond true x y h k = h
-  plain-cond false x y h k = k
-
-  pub plain-bind : {B : Type 0} (m : Reader B) (f : B → Reader A) → Plain Any m → ((x : B) → Plain P (f x)) → Plain P (m >>= f)
-  plain-bind (done a) f h k = k a
-  plain-bind (refuse e) f h k = h
-  plain-bind (next g) f h k = λ b. plain-bind (g b) f (h b) k
+-- what a tail came to is such, or it stopped with such a refusal
+abbrev pub Stops : (Tail → Type 0) → Outcome Tail → Type 0
+Stops P (got i n) = P i
+Stops P (stopped e n) = Turned e
 
 -- What a decoder that wraps asks of a set of rules.
 pub record Wraps (R : Rules) : Type 1 where
   -- the tails that are read by these rules
   pub Of : Tail → Type 0
   -- no tail is refused with TooManyPrefixes
-  pub plain : (opcode : ℕ) → Plain Of (R .follow opcode)
+  pub stops : (l : List ℕ) → Stops Of (tail R l)
   -- what the decoder makes of an inner answer's instruction under an override
   pub over : ℕ → Instruction → Result
   -- the innermost override: of an instruction with no override before it, whatever its repeat
@@ -102,10 +74,6 @@ module _ (R : Rules) where
   step-over op l e = simp (e, leb·suc-zero (length (runOf l)))
 
 module _ (R : Rules) (W : Wraps R) where
-  tail-stops : (l : List ℕ) → Stops (W .Of) (tail R l)
-  tail-stops [] = λ o. refl
-  tail-stops (op ∷ l) = stops-more (W .Of) (readFrom (R .follow op) l) (plain-stops (W .Of) (R .follow op) l (W .plain op))
-
   -- one more override before a run, one more repeat
   result-override : (o : ℕ) (first-o first-r : Option ℕ) (t : Outcome Tail) → Stops (W .Of) t
       → resultOf R (some o) first-r t ≡ resultUnder (W .over) o (resultOf R first-o first-r t)
@@ -152,10 +120,10 @@ module _ (R : Rules) (W : Wraps R) where
   step-override b o l e =
       one-more (resultUnder (W .over) o) b o l (override-prefix o e) (λ c. refl)
       (ap₂ (λ (x y : Bool). resultOf R (cond x (some o) (first isOverride (runOf l))) (cond y (some o) (first isRepeat (runOf l))) (tail R (tailOf l))) e (override-no-repeat o e)
-      ∙ result-override o (first isOverride (runOf l)) (first isRepeat (runOf l)) (tail R (tailOf l)) (tail-stops (tailOf l)))
+      ∙ result-override o (first isOverride (runOf l)) (first isRepeat (runOf l)) (tail R (tailOf l)) (W .stops (tailOf l)))
 
   pub step-repeat : (b r : ℕ) (l : List ℕ) → isRepeat r ≡ true → decodeBy R (suc b) (r ∷ l) ≡ withRepeat (repeatOf (some r)) (decodeBy R b l)
   step-repeat b r l e =
       one-more (resultRepeated (repeatOf (some r))) b r l (repeat-prefix r e) (λ c. refl)
       (ap₂ (λ (x y : Bool). resultOf R (cond x (some r) (first isOverride (runOf l))) (cond y (some r) (first isRepeat (runOf l))) (tail R (tailOf l))) (repeat-no-override r e) e
-      ∙ result-repeat r (first isOverride (runOf l)) (first isRepeat (runOf l)) (tail R (tailOf l)) (tail-stops (tailOf l)))
+      ∙ result-repeat r (first isOverride (runOf l)) (first isRepeat (runOf l)) (tail R (tailOf l)) (W .stops (tailOf l)))

@@ -4,7 +4,6 @@ use mathlib.Core.Path.{_≡_, refl, ap, _∙_}
 use mathlib.Core.List.{List, [], _∷_, map}
 use Prim.Native.Nat.{ℕ, zero, suc}
 use lib.ListN.{getD}
-use Rattle.mrc_names.specs.Places.{placeOf}
 use Rattle.mrc_rules.specs.Forms.{Row, invalid}
 use Rattle.mrc_rules.specs.Table.{rows, rowOf}
 use Rattle.mrc_decoder.specs.Table.{codeOf}
@@ -45,7 +44,7 @@ numbers =
     0x02_54_00 ∷ 0x02_56_00 ∷ 0x02_59_00 ∷ 0x02_5A_00 ∷ 0x02_57_00 ∷ 0x02_58_00 ∷ 0x1E_00_00 ∷ 0x1E_00_01 ∷ []
 
 rows-are : numbers ≡ map codeOf rows
-unfolding numbers rows placeOf
+unfolding numbers rows
 rows-are = refl
 
 map-at : (rs : List Row) (k : ℕ) → getD (map codeOf rs) k 0 ≡ codeOf (getD rs k invalid)

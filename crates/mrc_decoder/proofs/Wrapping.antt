@@ -4,87 +4,49 @@ use mathlib.Core.Path.{_≡_, refl, ap, ap₂}
 use mathlib.Core.List.{List, _∷_}
 use mathlib.Core.Option.{some}
 use mathlib.Core.Bool.{true}
-use Prim.Native.Nat.{ℕ, zero, suc, _/_, _%_}
-use lib.Dec.{eqb, ltb}
+use Prim.Native.Nat.{ℕ, suc, _<_}
+use native.Mathlib.Omega.{arith}
+use Rattle.mrc_instruction.specs.declared.errors.Refusal.{Refusal}
 use Rattle.mrc_instruction.specs.declared.register.Segment.{Segment}
-use Rattle.mrc_instruction.specs.declared.operand.OperandSize.{OperandSize}
-use Rattle.mrc_instruction.specs.declared.operand.OperandSize.the-variants.{Byte, Word}
-use Rattle.mrc_instruction.specs.declared.operand.Immediate.{Immediate}
 use Rattle.mrc_instruction.specs.declared.operand.Operand.{Operand}
 use Rattle.mrc_instruction.specs.declared.instruction.OperandSet.{OperandSet}
 use Rattle.mrc_instruction.specs.declared.instruction.Repeated.{Repeated}
-use Rattle.mrc_instruction.specs.Reader.{Reader, _>>=_, aByte, aWord}
-use Rattle.mrc_instruction.specs.Mrrm.{ModRM, regField, registerOrMemory, aModRM}
-use Rattle.mrc_rules.specs.Forms.{Tail, Row, bare, prefix, invalid, rmReg, regRm, immediateToAccumulator, onSegment, onRegister, onDisplacement, group80, group83, pop, rmSegment, segmentRm, exchange, far, accDirect, directAcc, registerAndImmediate, shiftByImmediate, shiftByOne, shiftByCl, onImmediate, groupC6, escape, inPort, outPort, inDx, outDx, groupF6, groupFE, rest, groupF6By, rm, anImmediate, aDisplacement}
-use Rattle.mrc_rules.specs.Table.{rowOf}
+use Rattle.mrc_instruction.specs.Errors.{numberOf}
+use Rattle.mrc_instruction.specs.Reader.{Outcome, got, stopped}
+use Rattle.mrc_rules.specs.Forms.{Tail}
 use Rattle.mrc_rules.specs.Prefixes.{isOverride, overrideSegment, isRepeat, repeatOf, inSegment, made, under, reads}
-use Rattle.mrc_rules.specs.Decode.{decodeBy, rules}
+use Rattle.mrc_rules.specs.Decode.{tail, decodeBy, rules}
+use Rattle.mrc_rules.proofs.Tails.{OfTail, tail-number}
 use Rattle.mrc_decoder.specs.Prefixes.{resultUnder, resultRepeated, overridden, underOverride, withRepeat}
-use Rattle.mrc_decoder.proofs.Steps.{Plain, Any, plain-cond, plain-bind, Wraps, step-override, step-repeat}
+use Rattle.mrc_decoder.proofs.Steps.{Turned, Stops, Wraps, step-override, step-repeat}
 
--- no form is refused with TooManyPrefixes
-rm-plain : (top low : ℕ) → Plain Any (registerOrMemory top low)
-unfolding aByte aWord
-rm-plain zero low = plain-cond Any (eqb low 6) _ _ (λ b c. tt) tt
-rm-plain (suc zero) low = λ b. tt
-rm-plain (suc (suc zero)) low = λ b c. tt
-rm-plain (suc (suc (suc n))) low = tt
+-- every refusal with a number below 9 is one that an override turns into its own
+turned : (e : Refusal) → numberOf e < 9 → Turned e
+turned Refusal.EndOfInput h = λ o. refl
+turned Refusal.CouldNotReadExtraBytes h = λ o. refl
+turned (Refusal.InvalidDataSizeEncoding b) h = λ o. refl
+turned (Refusal.InvalidIndirectMemoryEncoding b) h = λ o. refl
+turned (Refusal.InvalidModRegRMEncoding b) h = λ o. refl
+turned (Refusal.InvalidOpCode b) h = λ o. refl
+turned (Refusal.InvalidRegisterEncoding b) h = λ o. refl
+turned (Refusal.InvalidSegmentEncoding b) h = λ o. refl
+turned (Refusal.InvalidPrefix b) h = λ o. refl
+turned (Refusal.TooManyPrefixes b) h = absurd (omega arith)
+turned Refusal.OutsideInput h = λ o. refl
+turned Refusal.NoRoom h = λ o. refl
+turned Refusal.ImageTooLong h = λ o. refl
 
-modrm-then : (f : ModRM → Reader Tail) → ((m : ModRM) → Plain Any (f m)) → Plain Any (aModRM >>= f)
-unfolding aByte aWord
-modrm-then f h = plain-bind Any aModRM f (λ b. plain-bind Any (registerOrMemory (b / 64) (b % 8)) _ (rm-plain (b / 64) (b % 8)) (λ x. tt)) h
+-- every tail is meant
+unfoldable Any : Tail → Type 0
+Any i = Unit {0}
 
-immediate-plain : (size : OperandSize) → Plain Any (anImmediate size)
-unfolding aByte aWord
-immediate-plain Byte = λ b. tt
-immediate-plain Word = λ b c. tt
-
-displacement-plain : (size : OperandSize) → Plain Any (aDisplacement size)
-unfolding aByte aWord
-displacement-plain Byte = λ b. tt
-displacement-plain Word = λ b c. tt
-
-immediate-then : (size : OperandSize) (f : Immediate → Reader Tail) → ((i : Immediate) → Plain Any (f i)) → Plain Any (anImmediate size >>= f)
-immediate-then size f h = plain-bind Any (anImmediate size) f (immediate-plain size) h
-
-group-f6-plain : (n : ℕ) (d : Operand) (size : OperandSize) → Plain Any (groupF6By n d size)
-group-f6-plain zero d size = immediate-then size _ (λ i. tt)
-group-f6-plain (suc zero) d size = λ o. refl
-group-f6-plain (suc (suc n)) d size = tt
-
-pub rest-plain : (opcode : ℕ) (r : Row) → Plain Any (rest opcode r)
-unfolding aByte aWord
-rest-plain opcode (bare op) = tt
-rest-plain opcode prefix = λ o. refl
-rest-plain opcode invalid = λ o. refl
-rest-plain opcode (rmReg op size) = modrm-then _ (λ m. tt)
-rest-plain opcode (regRm op size) = modrm-then _ (λ m. tt)
-rest-plain opcode (immediateToAccumulator op size) = immediate-then size _ (λ i. tt)
-rest-plain opcode (onSegment op s) = tt
-rest-plain opcode (onRegister op r) = tt
-rest-plain opcode (onDisplacement op size) = plain-bind Any (aDisplacement size) _ (displacement-plain size) (λ d. tt)
-rest-plain opcode (group80 size) = modrm-then _ (λ m. immediate-then size _ (λ i. tt))
-rest-plain opcode group83 = modrm-then _ (λ m b. tt)
-rest-plain opcode pop = modrm-then _ (λ m. plain-cond Any (eqb (regField m) 0) _ _ tt (λ o. refl))
-rest-plain opcode rmSegment = modrm-then _ (λ m. plain-cond Any (ltb (regField m) 4) _ _ tt (λ o. refl))
-rest-plain opcode segmentRm = modrm-then _ (λ m. plain-cond Any (ltb (regField m) 4) _ _ tt (λ o. refl))
-rest-plain opcode (exchange r) = tt
-rest-plain opcode (far op) = λ a b c d. tt
-rest-plain opcode (accDirect size) = λ a b. tt
-rest-plain opcode (directAcc size) = λ a b. tt
-rest-plain opcode (registerAndImmediate r size) = immediate-then size _ (λ i. tt)
-rest-plain opcode (shiftByImmediate size) = modrm-then _ (λ m b. tt)
-rest-plain opcode (shiftByOne size) = modrm-then _ (λ m. tt)
-rest-plain opcode (shiftByCl size) = modrm-then _ (λ m. tt)
-rest-plain opcode (onImmediate op size) = immediate-then size _ (λ i. tt)
-rest-plain opcode (groupC6 size) = modrm-then _ (λ m. immediate-then size _ (λ i. tt))
-rest-plain opcode escape = λ b. tt
-rest-plain opcode (inPort size) = λ b. tt
-rest-plain opcode (outPort size) = λ b. tt
-rest-plain opcode (inDx size) = tt
-rest-plain opcode (outDx size) = tt
-rest-plain opcode (groupF6 size) = modrm-then _ (λ m. group-f6-plain (regField m) (rm m size) size)
-rest-plain opcode (groupFE size) = modrm-then _ (λ m. tt)
+tail-stops : (l : List ℕ) → Stops Any (tail rules l)
+unfolding Any
+tail-stops l = go (tail rules l) (tail-number l)
+  where
+    go : (t : Outcome Tail) → OfTail t → Stops Any t
+    go (got i n) h = tt
+    go (stopped e n) h = turned e h
 
 -- the outer segment wins
 in-segment-again : (g later : Segment) (d : Operand) → inSegment g (inSegment later d) ≡ inSegment g d
@@ -118,7 +80,7 @@ under-repeated r later o i (OperandSet.DestinationAndSource d s) = refl
 pub wraps : Wraps rules
 wraps = record {
   Of = Any;
-  plain = λ opcode. rest-plain opcode (rowOf opcode);
+  stops = tail-stops;
   over = overridden;
   fresh = λ o r i h. under-fresh o r i (i .operands) (i .operands);
   again = λ o later r i h. under-again o later r i (i .operands);

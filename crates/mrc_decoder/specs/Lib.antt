@@ -1,3 +1,4 @@
 pub mod Form
+pub mod Decode
 pub mod Table
 pub mod Prefixes

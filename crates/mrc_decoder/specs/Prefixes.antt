@@ -1,10 +1,12 @@
+-- Internal: what the parts of the decoder owe each other.
 -- What a prefix makes of the answer behind it: the decoder calls itself after the prefix, with the budget one lower, and wraps what comes back.
 -- Both counts grow by one.
 use Prim.Native.Nat.{ℕ, _+_, _<_, _^_}
 use mathlib.Core.Bool.{cond}
 use lib.Dec.{eqb}
 use Rattle.mrc_instruction.specs.declared.errors.Refusal.{Refusal}
-use Rattle.mrc_instruction.specs.declared.errors.Refusal.the-variants.{EndOfInput, CouldNotReadExtraBytes, InvalidDataSizeEncoding, InvalidIndirectMemoryEncoding, InvalidModRegRMEncoding, InvalidOpCode, InvalidRegisterEncoding, InvalidSegmentEncoding, InvalidPrefix, TooManyPrefixes, OutsideInput, NoRoom, ImageTooLong}
+use Rattle.mrc_instruction.specs.declared.errors.Refusal.the-variants.{EndOfInput, InvalidPrefix, TooManyPrefixes, OutsideInput}
+use Rattle.mrc_instruction.specs.Errors.{numberOf}
 use Rattle.mrc_instruction.specs.declared.instruction.Repeated.{Repeated}
 use Rattle.mrc_instruction.specs.declared.instruction.Instruction.{Instruction}
 use Rattle.mrc_rules.specs.declared.Answer.{Answer}
@@ -15,19 +17,7 @@ use Rattle.mrc_rules.specs.Decode.{answer}
 -- a refusal under an override: too many prefixes passes through; any other, an inner override's too, becomes InvalidPrefix with this override,
 -- which is the earlier one
 abbrev pub refusalUnder : ℕ → Refusal → Refusal
-refusalUnder o EndOfInput = InvalidPrefix o
-refusalUnder o CouldNotReadExtraBytes = InvalidPrefix o
-refusalUnder o (InvalidDataSizeEncoding b) = InvalidPrefix o
-refusalUnder o (InvalidIndirectMemoryEncoding b) = InvalidPrefix o
-refusalUnder o (InvalidModRegRMEncoding b) = InvalidPrefix o
-refusalUnder o (InvalidOpCode b) = InvalidPrefix o
-refusalUnder o (InvalidRegisterEncoding b) = InvalidPrefix o
-refusalUnder o (InvalidSegmentEncoding b) = InvalidPrefix o
-refusalUnder o (InvalidPrefix b) = InvalidPrefix o
-refusalUnder o (TooManyPrefixes b) = TooManyPrefixes b
-refusalUnder o OutsideInput = InvalidPrefix o
-refusalUnder o NoRoom = InvalidPrefix o
-refusalUnder o ImageTooLong = InvalidPrefix o
+refusalUnder o e = cond (eqb (numberOf e) 10) e (InvalidPrefix o)
 
 -- a result under an override, by what the override makes of an instruction; and under a repeat
 abbrev pub resultUnder : (ℕ → Instruction → Result) → ℕ → Result → Result
@@ -60,7 +50,7 @@ underOverride = underOverrideBy overridden
 abbrev pub tooMany : ℕ → Answer
 tooMany b = Answer.Refused (TooManyPrefixes b) 1 1
 
--- no byte at a position: "EndOfInput: no opcode byte" at the end, "OutsideInput: position beyond the length"
+-- no byte at a position: rule 8.4 at the end, rule 8.3 past it
 abbrev pub pastEnd : ℕ → ℕ → Answer
 pastEnd len at = cond (eqb len at) (Answer.Refused EndOfInput 0 0) (Answer.Refused OutsideInput 0 0)
 

@@ -1,14 +1,11 @@
--- The codes of the form table: a row as one number, of its form, its operation's place and its size.
+-- Internal: what the parts of the decoder owe each other.
+-- Rule 6.3: the codes of the form table: a row as one number, of its form, its operation's number and its size.
 use Prim.Native.Nat.{ℕ, _+_, _*_}
-use Rattle.mrc_instruction.specs.declared.operand.OperandSize.{OperandSize}
-use Rattle.mrc_instruction.specs.declared.operand.OperandSize.the-variants.{Byte, Word}
+use Rattle.mrc_instruction.specs.declared.operand.OperandSize.the-variants.{Word}
 use Rattle.mrc_instruction.specs.declared.operation.Operation.the-variants.{MOV, POP, XCHG, IN, OUT, ESC}
-use Rattle.mrc_names.specs.Places.{placeOf}
-use Rattle.mrc_rules.specs.Forms.{Row, invalid, prefix, bare, rmReg, regRm, immediateToAccumulator, onSegment, onRegister, onDisplacement, group80, group83, pop, rmSegment, segmentRm, exchange, far, accDirect, directAcc, registerAndImmediate, shiftByImmediate, shiftByOne, shiftByCl, onImmediate, groupC6, escape, inPort, outPort, inDx, outDx, groupF6, groupFE}
-
-abbrev pub sizeCode : OperandSize → ℕ
-sizeCode Byte = 0
-sizeCode Word = 1
+use Rattle.mrc_instruction.specs.Operation.{operationNumber}
+use Rattle.mrc_instruction.specs.Operand.{sizeCode}
+use Rattle.mrc_rules.specs.Forms.{Row, _⦂_, invalid, prefix, bare, rmReg, regRm, immediateToAccumulator, onSegment, onRegister, onDisplacement, group80, group83, pop, rmSegment, segmentRm, exchange, far, accDirect, directAcc, registerAndImmediate, shiftByImmediate, shiftByOne, shiftByCl, onImmediate, groupC6, escape, inPort, outPort, inDx, outDx, groupF6, groupFE}
 
 -- two hex digits for each
 abbrev pub packed : ℕ → ℕ → ℕ → ℕ
@@ -18,32 +15,32 @@ packed form operation size = form * 0x1_00_00 + operation * 0x1_00 + size
 abbrev pub codeOf : Row → ℕ
 codeOf invalid = packed 0 0 0
 codeOf prefix = packed 1 0 0
-codeOf (bare op) = packed 2 (placeOf op) 0
-codeOf (rmReg op size) = packed 3 (placeOf op) (sizeCode size)
-codeOf (regRm op size) = packed 4 (placeOf op) (sizeCode size)
-codeOf (immediateToAccumulator op size) = packed 5 (placeOf op) (sizeCode size)
-codeOf (onSegment op s) = packed 6 (placeOf op) (sizeCode Word)
-codeOf (onRegister op r) = packed 7 (placeOf op) (sizeCode Word)
-codeOf (onDisplacement op size) = packed 8 (placeOf op) (sizeCode size)
-codeOf (group80 size) = packed 9 0 (sizeCode size)
-codeOf group83 = packed 10 0 (sizeCode Word)
-codeOf pop = packed 11 (placeOf POP) (sizeCode Word)
-codeOf rmSegment = packed 12 (placeOf MOV) (sizeCode Word)
-codeOf segmentRm = packed 13 (placeOf MOV) (sizeCode Word)
-codeOf (exchange r) = packed 14 (placeOf XCHG) (sizeCode Word)
-codeOf (far op) = packed 15 (placeOf op) 0
-codeOf (accDirect size) = packed 16 (placeOf MOV) (sizeCode size)
-codeOf (directAcc size) = packed 17 (placeOf MOV) (sizeCode size)
-codeOf (registerAndImmediate r size) = packed 18 (placeOf MOV) (sizeCode size)
-codeOf (shiftByImmediate size) = packed 19 0 (sizeCode size)
-codeOf (shiftByOne size) = packed 20 0 (sizeCode size)
-codeOf (shiftByCl size) = packed 21 0 (sizeCode size)
-codeOf (onImmediate op size) = packed 22 (placeOf op) (sizeCode size)
-codeOf (groupC6 size) = packed 23 (placeOf MOV) (sizeCode size)
-codeOf escape = packed 24 (placeOf ESC) 0
-codeOf (inPort size) = packed 25 (placeOf IN) (sizeCode size)
-codeOf (outPort size) = packed 26 (placeOf OUT) (sizeCode size)
-codeOf (inDx size) = packed 27 (placeOf IN) (sizeCode size)
-codeOf (outDx size) = packed 28 (placeOf OUT) (sizeCode size)
-codeOf (groupF6 size) = packed 29 0 (sizeCode size)
-codeOf (groupFE size) = packed 30 0 (sizeCode size)
+codeOf (bare op) = packed 2 (operationNumber op) 0
+codeOf (rmReg op ⦂ size) = packed 3 (operationNumber op) (sizeCode size)
+codeOf (regRm op ⦂ size) = packed 4 (operationNumber op) (sizeCode size)
+codeOf (immediateToAccumulator op size) = packed 5 (operationNumber op) (sizeCode size)
+codeOf (onSegment op s) = packed 6 (operationNumber op) (sizeCode Word)
+codeOf (onRegister op r) = packed 7 (operationNumber op) (sizeCode Word)
+codeOf (onDisplacement op size) = packed 8 (operationNumber op) (sizeCode size)
+codeOf (group80 ⦂ size) = packed 9 0 (sizeCode size)
+codeOf (group83 ⦂ size) = packed 10 0 (sizeCode size)
+codeOf (pop ⦂ size) = packed 11 (operationNumber POP) (sizeCode size)
+codeOf (rmSegment ⦂ size) = packed 12 (operationNumber MOV) (sizeCode size)
+codeOf (segmentRm ⦂ size) = packed 13 (operationNumber MOV) (sizeCode size)
+codeOf (exchange r) = packed 14 (operationNumber XCHG) (sizeCode Word)
+codeOf (far op) = packed 15 (operationNumber op) 0
+codeOf (accDirect size) = packed 16 (operationNumber MOV) (sizeCode size)
+codeOf (directAcc size) = packed 17 (operationNumber MOV) (sizeCode size)
+codeOf (registerAndImmediate r size) = packed 18 (operationNumber MOV) (sizeCode size)
+codeOf (shiftByImmediate ⦂ size) = packed 19 0 (sizeCode size)
+codeOf (shiftByOne ⦂ size) = packed 20 0 (sizeCode size)
+codeOf (shiftByCl ⦂ size) = packed 21 0 (sizeCode size)
+codeOf (onImmediate op size) = packed 22 (operationNumber op) (sizeCode size)
+codeOf (groupC6 ⦂ size) = packed 23 (operationNumber MOV) (sizeCode size)
+codeOf escape = packed 24 (operationNumber ESC) 0
+codeOf (inPort size) = packed 25 (operationNumber IN) (sizeCode size)
+codeOf (outPort size) = packed 26 (operationNumber OUT) (sizeCode size)
+codeOf (inDx size) = packed 27 (operationNumber IN) (sizeCode size)
+codeOf (outDx size) = packed 28 (operationNumber OUT) (sizeCode size)
+codeOf (groupF6 ⦂ size) = packed 29 0 (sizeCode size)
+codeOf (groupFE ⦂ size) = packed 30 0 (sizeCode size)

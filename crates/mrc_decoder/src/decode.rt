@@ -9,17 +9,17 @@ use mrc_directed::common::immediate_to_accumulator;
 use mrc_directed::common::immediate_to_register_or_memory;
 use mrc_directed::common::register_or_memory_and_register;
 use mrc_directed::common::register_or_memory_and_segment;
-use mrc_directed::pairs::accumulator_and_direct;
-use mrc_directed::pairs::exchange;
-use mrc_directed::pairs::group_83;
-use mrc_directed::pairs::group_f6;
-use mrc_directed::pairs::in_dx;
-use mrc_directed::pairs::in_port;
-use mrc_directed::pairs::out_dx;
-use mrc_directed::pairs::out_port;
-use mrc_directed::pairs::register_and_immediate;
-use mrc_directed::pairs::shift_by_count;
-use mrc_directed::pairs::shift_by_immediate;
+use mrc_directed::groups::group_83;
+use mrc_directed::groups::group_f6;
+use mrc_directed::moves::accumulator_and_direct;
+use mrc_directed::moves::exchange;
+use mrc_directed::moves::register_and_immediate;
+use mrc_directed::ports::in_dx;
+use mrc_directed::ports::in_port;
+use mrc_directed::ports::out_dx;
+use mrc_directed::ports::out_port;
+use mrc_directed::shifts::shift_by_count;
+use mrc_directed::shifts::shift_by_immediate;
 use mrc_forms::answers::FormRead;
 use mrc_forms::forms::bare;
 use mrc_forms::forms::escape;
@@ -38,29 +38,31 @@ use mrc_instruction::operand::OperandSize;
 use mrc_rules::Answer;
 ghost use mathlib.Core.Path.{_≡_};
 ghost use mathlib.Core.List.{[]};
+ghost use Prim.Native.Nat.{_≤_};
 ghost use lib.ListN.{drop};
-ghost use Rattle.mrc_instruction.specs.Reader.{readFrom};
+ghost use Rattle.mrc_rules.specs.Forms.{_⦂_};
 ghost use Rattle.mrc_rules.specs.Decode.{decodeAt};
-ghost use Rattle.mrc_forms.specs.Answers.{readBy, formRead};
-ghost use Rattle.mrc_decoder.specs.Form.{aloneRow, modRMReader};
+ghost use Rattle.mrc_forms.specs.Answers.{readBy};
+ghost use Rattle.mrc_decoder.specs.Form.{aloneRow, modRMForm};
+ghost use Rattle.mrc_decoder.specs.Decode.{endOf, answerAt};
 ghost use Rattle.mrc_decoder.specs.Prefixes.{tooMany, pastEnd};
 
-// A form that is its opcode alone.
-fn opcode_alone(form: OpcodeAlone, opcode: u8) -> Answer
-    ensures { λ r. ⌜ r ≡ readBy opcode (aloneRow form opcode) [] ⌝ }
+// A form that is its opcode alone, with the position behind it.
+fn opcode_alone(form: OpcodeAlone, opcode: u8, at: usize) -> FormRead
+    ensures { λ r. ⌜ r ≡ readBy opcode (aloneRow form opcode) at [] ⌝ }
 {
     match form {
-        OpcodeAlone::Bare(operation) => return bare(operation),
-        OpcodeAlone::OnSegment(operation) => return on_segment(operation, opcode),
-        OpcodeAlone::Exchange => return exchange(opcode),
-        OpcodeAlone::InDx => return in_dx(opcode),
-        OpcodeAlone::OutDx => return out_dx(opcode),
+        OpcodeAlone::Bare(operation) => return bare(operation, at),
+        OpcodeAlone::OnSegment(operation) => return on_segment(operation, opcode, at),
+        OpcodeAlone::Exchange => return exchange(opcode, at),
+        OpcodeAlone::InDx => return in_dx(opcode, at),
+        OpcodeAlone::OutDx => return out_dx(opcode, at),
     }
 }
 
 // A form with a ModRM, from the position behind the opcode on: the operand of a size that the ModRM names, and what follows.
 fn with_modrm(form: WithModRM, size: OperandSize, opcode: u8, s: &[u8], at: usize) -> FormRead
-    ensures { λ r. ⌜ r ≡ formRead at (readFrom (modRMReader form size opcode) (drop at (now (s .entry)))) ⌝ }
+    ensures { λ r. ⌜ r ≡ readBy opcode (modRMForm form opcode ⦂ size) at (drop at (now (s .entry))) ⌝ }
 {
     match read_operand(size, s, at) {
         OperandRead::Got(operand, next, byte) => match form {
@@ -84,13 +86,34 @@ fn with_modrm(form: WithModRM, size: OperandSize, opcode: u8, s: &[u8], at: usiz
             WithModRM::ImmediateToRegisterOrMemory(group) => {
                 return immediate_to_register_or_memory(group, size, operand, byte, s, next);
             }
-            WithModRM::Group83 => {
-                return group_83(operand, byte, s, next);
-            }
+            WithModRM::Group83 => return group_83(operand, byte, s, next),
             WithModRM::ShiftByImmediate => return shift_by_immediate(operand, byte, s, next),
             WithModRM::ShiftByCount => return shift_by_count(opcode, size, operand, byte, next),
         },
         OperandRead::Refused(e, end) => return FormRead::Refused(e, end),
+    }
+}
+
+// What a form read, as the answer at the position of its opcode.
+fn answered(at: usize, read: FormRead) -> Answer
+    requires { ⌜ at ≤ endOf read ⌝ }
+    ensures { λ r. ⌜ r ≡ answerAt at read ⌝ }
+{
+    match read {
+        FormRead::Got(instruction, end) => {
+            return Answer::Decoded {
+                instruction,
+                taken: end - at,
+                prefixes: 0,
+            };
+        }
+        FormRead::Refused(refusal, end) => {
+            return Answer::Refused {
+                refusal,
+                taken: end - at,
+                prefixes: 0,
+            };
+        }
     }
 }
 
@@ -144,35 +167,26 @@ pub fn decode_instruction(s: &[u8], at: usize, budget: u8) -> Answer
             }
             return with_repeat(byte, decode_instruction(&s[..], at + 1, budget - 1));
         }
-        Form::Invalid => return invalid(byte),
-        Form::OnRegister(operation) => return on_register(operation, byte),
-        Form::OnImmediate(operation, size) => return on_immediate(operation, size, s, at + 1),
-        Form::OnDisplacement(operation, size) => return on_displacement(operation, size, s, at + 1),
-        Form::Far(operation) => return far(operation, s, at + 1),
-        Form::Escape => return escape(s, at + 1),
-        Form::InPort => return in_port(byte, s, at + 1),
-        Form::OutPort => return out_port(byte, s, at + 1),
-        Form::RegisterAndImmediate => return register_and_immediate(byte, s, at + 1),
-        Form::AccumulatorAndDirect => return accumulator_and_direct(byte, s, at + 1),
-        Form::ImmediateToAccumulator(operation) => {
-            return immediate_to_accumulator(operation, byte, s, at + 1);
+        Form::Invalid => return answered(at, invalid(byte, at + 1)),
+        Form::OnRegister(operation) => return answered(at, on_register(operation, byte, at + 1)),
+        Form::OnImmediate(operation, size) => {
+            return answered(at, on_immediate(operation, size, s, at + 1));
         }
-        Form::OpcodeAlone(form) => return opcode_alone(form, byte),
-        Form::WithModRM(form, size) => match with_modrm(form, size, byte, s, at + 1) {
-            FormRead::Got(instruction, end) => {
-                return Answer::Decoded {
-                    instruction,
-                    taken: end - at,
-                    prefixes: 0,
-                };
-            }
-            FormRead::Refused(refusal, end) => {
-                return Answer::Refused {
-                    refusal,
-                    taken: end - at,
-                    prefixes: 0,
-                };
-            }
-        },
+        Form::OnDisplacement(operation, size) => {
+            return answered(at, on_displacement(operation, size, s, at + 1));
+        }
+        Form::Far(operation) => return answered(at, far(operation, s, at + 1)),
+        Form::Escape => return answered(at, escape(s, at + 1)),
+        Form::InPort => return answered(at, in_port(byte, s, at + 1)),
+        Form::OutPort => return answered(at, out_port(byte, s, at + 1)),
+        Form::RegisterAndImmediate => return answered(at, register_and_immediate(byte, s, at + 1)),
+        Form::AccumulatorAndDirect => return answered(at, accumulator_and_direct(byte, s, at + 1)),
+        Form::ImmediateToAccumulator(operation) => {
+            return answered(at, immediate_to_accumulator(operation, byte, s, at + 1));
+        }
+        Form::OpcodeAlone(form) => return answered(at, opcode_alone(form, byte, at + 1)),
+        Form::WithModRM(form, size) => {
+            return answered(at, with_modrm(form, size, byte, s, at + 1));
+        }
     }
 }

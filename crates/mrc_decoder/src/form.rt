@@ -4,7 +4,6 @@ use mrc_forms::groups::GROUP_80;
 use mrc_forms::groups::GROUP_C6;
 use mrc_forms::groups::group1_operation;
 use mrc_forms::groups::jump_operation;
-use mrc_forms::traits::operand_size;
 use mrc_instruction::operand::OperandSize;
 use mrc_instruction::operation::Operation;
 ghost use mathlib.Core.Path.{_≡_};
@@ -57,7 +56,7 @@ fn group1(opcode: u8) -> Form
     let operation = group1_operation(opcode);
     if opcode % 8 < 4 {
         let form = WithModRM::RegisterOrMemoryAndRegister(operation, Direction::Detect);
-        return Form::WithModRM(form, operand_size(opcode));
+        return Form::WithModRM(form, OperandSize::from_low_bit(opcode));
     }
     Form::ImmediateToAccumulator(operation)
 }

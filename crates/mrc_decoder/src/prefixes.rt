@@ -30,24 +30,17 @@ pub fn override_segment(operand: Operand, segment: Segment) -> Operand
     }
 }
 
+// The number of the refusal that passes through an override.
+const TOO_MANY_PREFIXES: u8 = 10;
+
 // A refusal under an override: too many prefixes passes through, and any other is the override's own.
 fn refusal_under(prefix: u8, refusal: Refusal) -> Refusal
     ensures { λ r. ⌜ r ≡ refusalUnder prefix refusal ⌝ }
 {
-    match refusal {
-        Refusal::EndOfInput => Refusal::InvalidPrefix(prefix),
-        Refusal::CouldNotReadExtraBytes => Refusal::InvalidPrefix(prefix),
-        Refusal::InvalidDataSizeEncoding(_) => Refusal::InvalidPrefix(prefix),
-        Refusal::InvalidIndirectMemoryEncoding(_) => Refusal::InvalidPrefix(prefix),
-        Refusal::InvalidModRegRMEncoding(_) => Refusal::InvalidPrefix(prefix),
-        Refusal::InvalidOpCode(_) => Refusal::InvalidPrefix(prefix),
-        Refusal::InvalidRegisterEncoding(_) => Refusal::InvalidPrefix(prefix),
-        Refusal::InvalidSegmentEncoding(_) => Refusal::InvalidPrefix(prefix),
-        Refusal::InvalidPrefix(_) => Refusal::InvalidPrefix(prefix),
-        Refusal::TooManyPrefixes(over) => Refusal::TooManyPrefixes(over),
-        Refusal::OutsideInput => Refusal::InvalidPrefix(prefix),
-        Refusal::NoRoom => Refusal::InvalidPrefix(prefix),
-        Refusal::ImageTooLong => Refusal::InvalidPrefix(prefix),
+    if refusal.number() == TOO_MANY_PREFIXES {
+        refusal
+    } else {
+        Refusal::InvalidPrefix(prefix)
     }
 }
 

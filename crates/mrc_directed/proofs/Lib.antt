@@ -1,4 +1,5 @@
-pub mod Picked
+pub mod SegmentField
+pub mod Either
 pub mod GroupF6
 pub mod Order
 pub mod Main

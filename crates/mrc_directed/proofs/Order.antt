@@ -3,10 +3,16 @@
 -- Assumes nothing.
 use Prim.Native.Nat.{ℕ}
 use mathlib.Core.Path.{_≡_, refl, ap, _∙_}
+use mathlib.Core.Bool.{Bool, true, false, cond}
 use mathlib.Core.List.{List, [], _∷_}
+use lib.Dec.{ltb}
+use Rattle.mrc_instruction.specs.declared.errors.Refusal.{Refusal}
+use Rattle.mrc_instruction.specs.declared.operand.Operand.{Operand}
+use Rattle.mrc_instruction.specs.declared.operand.OperandSize.{OperandSize}
 use Rattle.mrc_instruction.specs.Reader.{Reader, done, refuse, next, Outcome, got, stopped, more, readFrom, _>>=_}
-use Rattle.mrc_rules.specs.Forms.{Tail}
-use Rattle.mrc_directed.specs.Order.{exchangedIn}
+use Rattle.mrc_instruction.specs.Mrrm.{regField, aModRM}
+use Rattle.mrc_rules.specs.Forms.{Tail, ModRMForm, _⦂_, rmSegment, segmentRm, withModRM, behind, rest, rm}
+use Rattle.mrc_directed.specs.Order.{exchanged, exchangedIn}
 
 more-exchanged : (o : Outcome Tail) → more (exchangedIn o) ≡ exchangedIn (more o)
 more-exchanged (got i n) = refl
@@ -18,3 +24,20 @@ mirrored (done a) f g h l = h a l
 mirrored (refuse e) f g h l = refl
 mirrored (next k) f g h [] = refl
 mirrored (next k) f g h (b ∷ l) = ap more (mirrored (k b) f g h l) ∙ more-exchanged (readFrom (k b >>= f) l)
+
+-- the same of two forms with a ModRM, by what is read behind it
+pub mirrored-behind : (f g : ModRMForm) (size : OperandSize)
+    → ((operand : Operand) (byte : ℕ) (l : List ℕ) → readFrom (behind g size operand byte) l ≡ exchangedIn (readFrom (behind f size operand byte) l))
+    → (opcode : ℕ) (l : List ℕ) → readFrom (rest opcode (g ⦂ size)) l ≡ exchangedIn (readFrom (rest opcode (f ⦂ size)) l)
+unfolding withModRM
+mirrored-behind f g size h opcode = mirrored aModRM _ _ (λ m. h (rm m size) (m .byte))
+
+-- 8E and 8C: both refuse, or neither
+tested : (t : Bool) (i : Tail) (e : Refusal) (l : List ℕ)
+    → readFrom (cond t (done (exchanged i)) (refuse e)) l ≡ exchangedIn (readFrom (cond t (done i) (refuse e)) l)
+tested true i e l = refl
+tested false i e l = refl
+
+pub segment-mirrored : (size : OperandSize) (operand : Operand) (byte : ℕ) (l : List ℕ)
+    → readFrom (behind segmentRm size operand byte) l ≡ exchangedIn (readFrom (behind rmSegment size operand byte) l)
+segment-mirrored size operand byte = tested (ltb (regField byte) 4) _ (Refusal.InvalidSegmentEncoding (regField byte))

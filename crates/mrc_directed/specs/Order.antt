@@ -1,4 +1,4 @@
--- "'rm,reg' means destination, source": an instruction with its two operands exchanged.
+-- Rule 1.1, the other way round: an instruction with its two operands exchanged.
 use Rattle.mrc_instruction.specs.declared.instruction.OperandSet.{OperandSet}
 use Rattle.mrc_instruction.specs.Reader.{Outcome, got, stopped}
 use Rattle.mrc_rules.specs.Forms.{Tail}

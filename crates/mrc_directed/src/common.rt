@@ -1,14 +1,13 @@
 // The forms that several opcodes share, destination before source. Those with a ModRM take the operand that it names, its byte and the
 // position behind it; the other takes the position behind the opcode.
 use mrc_forms::answers::FormRead;
-use mrc_forms::answers::decoded;
-use mrc_forms::answers::refused;
 use mrc_forms::groups::immediate_operation;
 use mrc_forms::traits::ImmediateRead;
-use mrc_forms::traits::operand_size;
+use mrc_forms::traits::d_bit;
 use mrc_forms::traits::read_immediate;
 use mrc_instruction::instruction::Instruction;
 use mrc_instruction::instruction::OperandSet;
+use mrc_instruction::mrrm::reg_field;
 use mrc_instruction::operand::Operand;
 use mrc_instruction::operand::OperandSize;
 use mrc_instruction::operation::Operation;
@@ -16,16 +15,14 @@ use mrc_instruction::register::RegisterEncoding;
 use mrc_instruction::register::Segment;
 use mrc_instruction::register::SegmentField;
 use mrc_instruction::register::SizedRegisterEncoding;
-use mrc_rules::Answer;
 ghost use mathlib.Core.Path.{_≡_};
 ghost use mathlib.Core.List.{[]};
 ghost use lib.ListN.{drop};
-ghost use Rattle.mrc_instruction.specs.Reader.{readFrom};
+ghost use Rattle.mrc_instruction.specs.declared.operand.OperandSize.{OperandSize};
 ghost use Rattle.mrc_rules.specs.Forms.{immediateToAccumulator};
-ghost use Rattle.mrc_forms.specs.declared.answers.FormRead.{FormRead};
-ghost use Rattle.mrc_forms.specs.Answers.{readBy, formRead};
-ghost use Rattle.mrc_forms.specs.Traits.{sizeBy};
-ghost use Rattle.mrc_directed.specs.Common.{regFirst, registerBehind, segmentBehind, immediateBehind};
+ghost use Rattle.mrc_forms.specs.Answers.{readBy, readBehind};
+ghost use Rattle.mrc_instruction.specs.Operand.{sizeBy};
+ghost use Rattle.mrc_directed.specs.Common.{regFirst, registerOrMemoryAndRegister, registerOrMemoryAndSegment, immediateToRegisterOrMemory};
 
 // Which operand is the destination: the one that d says, the register, or the register or memory.
 pub enum Direction {
@@ -38,7 +35,7 @@ fn reg_first(direction: Direction, opcode: u8) -> bool
     ensures { λ r. ⌜ r ≡ regFirst direction opcode ⌝ }
 {
     match direction {
-        Direction::Detect => opcode / 2 % 2 == 1,
+        Direction::Detect => d_bit(opcode),
         Direction::RegFirst => true,
         Direction::RegMemFirst => false,
     }
@@ -54,7 +51,7 @@ pub fn register_or_memory_and_register(
     byte: u8,
     at: usize,
 ) -> FormRead
-    ensures { λ r. ⌜ r ≡ FormRead.Got (registerBehind direction opcode operation size «reg_mem» byte) at ⌝ }
+    ensures { λ r. ⌜ r ≡ readBehind (registerOrMemoryAndRegister direction opcode operation) size «reg_mem» byte at [] ⌝ }
 {
     let register = RegisterEncoding::from_low_bits(byte / 8);
     let reg = Operand::Register(SizedRegisterEncoding(register, size));
@@ -68,12 +65,12 @@ pub fn register_or_memory_and_register(
 
 // 1 0 0 0 1 1 d 0 | mod reg r/m
 pub fn register_or_memory_and_segment(opcode: u8, reg_mem: Operand, byte: u8, at: usize) -> FormRead
-    ensures { λ r. ⌜ r ≡ formRead at (readFrom (segmentBehind opcode «reg_mem» byte) []) ⌝ }
+    ensures { λ r. ⌜ r ≡ readBehind (registerOrMemoryAndSegment opcode) OperandSize.Word «reg_mem» byte at [] ⌝ }
 {
-    match Segment::try_from_encoding(byte / 8 % 8) {
+    match Segment::try_from_encoding(reg_field(byte)) {
         SegmentField::Found(segment) => {
             let seg = Operand::Segment(segment);
-            if opcode / 2 % 2 == 1 {
+            if d_bit(opcode) {
                 let operands = OperandSet::DestinationAndSource(seg, reg_mem);
                 return FormRead::Got(Instruction::new(Operation::MOV, operands), at);
             }
@@ -93,12 +90,12 @@ pub fn immediate_to_register_or_memory(
     s: &[u8],
     at: usize,
 ) -> FormRead
-    ensures { λ r. ⌜ r ≡ formRead at (readFrom (immediateBehind group size destination byte) (drop at (now (s .entry)))) ⌝ }
+    ensures { λ r. ⌜ r ≡ readBehind (immediateToRegisterOrMemory group) size destination byte at (drop at (now (s .entry))) ⌝ }
 {
     match read_immediate(size, s, at) {
         ImmediateRead::Got(immediate, n) => {
             let source = Operand::Immediate(immediate);
-            let operation = immediate_operation(group, byte / 8 % 8);
+            let operation = immediate_operation(group, reg_field(byte));
             let operands = OperandSet::DestinationAndSource(destination, source);
             return FormRead::Got(Instruction::new(operation, operands), at + n);
         }
@@ -107,10 +104,10 @@ pub fn immediate_to_register_or_memory(
 }
 
 // x x x x x x x w | data | data if w = 1
-pub fn immediate_to_accumulator(operation: Operation, opcode: u8, s: &[u8], at: usize) -> Answer
-    ensures { λ r. ⌜ r ≡ readBy opcode (immediateToAccumulator operation (sizeBy opcode)) (drop at (now (s .entry))) ⌝ }
+pub fn immediate_to_accumulator(operation: Operation, opcode: u8, s: &[u8], at: usize) -> FormRead
+    ensures { λ r. ⌜ r ≡ readBy opcode (immediateToAccumulator operation (sizeBy opcode)) at (drop at (now (s .entry))) ⌝ }
 {
-    let size = operand_size(opcode);
+    let size = OperandSize::from_low_bit(opcode);
     match read_immediate(size, s, at) {
         ImmediateRead::Got(immediate, n) => {
             let accumulator = Operand::Register(SizedRegisterEncoding(
@@ -118,12 +115,9 @@ pub fn immediate_to_accumulator(operation: Operation, opcode: u8, s: &[u8], at: 
                 size,
             ));
             let source = Operand::Immediate(immediate);
-            return decoded(
-                operation,
-                OperandSet::DestinationAndSource(accumulator, source),
-                n + 1,
-            );
+            let operands = OperandSet::DestinationAndSource(accumulator, source);
+            return FormRead::Got(Instruction::new(operation, operands), at + n);
         }
-        ImmediateRead::Refused(e, n) => return refused(e, n + 1),
+        ImmediateRead::Refused(e, n) => return FormRead::Refused(e, at + n),
     }
 }

@@ -1,8 +1,8 @@
--- "w is bit 0 (0 Byte, 1 Word)"; and what the readers of immediates and displacements answer, in numbers too.
-use Prim.Native.Nat.{ℕ, _%_}
-use mathlib.Core.Bool.{cond}
+-- Internal: what the forms owe the decoder.
+-- The bit of an opcode that names the direction; and what the readers of immediates and displacements answer, in numbers too.
+use Prim.Native.Nat.{ℕ, _/_, _%_}
+use mathlib.Core.Bool.{Bool}
 use lib.Dec.{eqb}
-use Rattle.mrc_instruction.specs.declared.operand.OperandSize.{OperandSize}
 use Rattle.mrc_instruction.specs.declared.operand.Immediate.{Immediate}
 use Rattle.mrc_instruction.specs.declared.operand.Displacement.{Displacement}
 use Rattle.mrc_instruction.specs.Reader.{Outcome}
@@ -11,8 +11,8 @@ use Rattle.mrc_instruction.specs.Read.{answered}
 use Rattle.mrc_forms.specs.declared.traits.ImmediateRead.{ImmediateRead}
 use Rattle.mrc_forms.specs.declared.traits.DisplacementRead.{DisplacementRead}
 
-abbrev pub sizeBy : ℕ → OperandSize
-sizeBy bits = cond (eqb (bits % 2) 0) OperandSize.Byte OperandSize.Word
+abbrev pub dBit : ℕ → Bool
+dBit opcode = eqb (opcode / 2 % 2) 1
 
 abbrev pub immediateRead : Outcome Immediate → ImmediateRead
 immediateRead = answered ImmediateRead.Got ImmediateRead.Refused

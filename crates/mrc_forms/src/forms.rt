@@ -1,7 +1,5 @@
-// The forms with no operand or one. One that reads takes the position behind the opcode, or behind its ModRM.
+// The forms with no operand or one. Each takes the position behind the opcode, or behind its ModRM.
 use crate::answers::FormRead;
-use crate::answers::decoded;
-use crate::answers::refused;
 use crate::groups::group_fe_operation;
 use crate::traits::DisplacementRead;
 use crate::traits::ImmediateRead;
@@ -11,6 +9,7 @@ use mrc_instruction::address::Address;
 use mrc_instruction::errors::Refusal;
 use mrc_instruction::instruction::Instruction;
 use mrc_instruction::instruction::OperandSet;
+use mrc_instruction::mrrm::reg_field;
 use mrc_instruction::operand::Operand;
 use mrc_instruction::operand::OperandSize;
 use mrc_instruction::operation::Operation;
@@ -21,117 +20,123 @@ use mrc_instruction::read::read_u16;
 use mrc_instruction::register::RegisterEncoding;
 use mrc_instruction::register::Segment;
 use mrc_instruction::register::SizedRegisterEncoding;
-use mrc_rules::Answer;
 ghost use mathlib.Core.Path.{_≡_};
 ghost use mathlib.Core.List.{[]};
 ghost use Prim.Native.Nat.{_/_, _%_};
 ghost use lib.ListN.{drop};
 ghost use Rattle.mrc_instruction.specs.Register.{registerOf, segmentOf};
-ghost use Rattle.mrc_instruction.specs.Reader.{readFrom};
-ghost use Rattle.mrc_rules.specs.Forms.{invalid as invalidRow, bare, onSegment, onRegister, onImmediate, onDisplacement, far as farRow, escape as escapeRow, one, groupFEOperation};
-ghost use Rattle.mrc_forms.specs.declared.answers.FormRead.{FormRead};
-ghost use Rattle.mrc_forms.specs.Answers.{readBy, formRead, popBehind};
+ghost use Rattle.mrc_rules.specs.Forms.{invalid as invalidRow, bare, onSegment, onRegister, onImmediate, onDisplacement, far as farRow, escape as escapeRow, pop as popForm, groupFE};
+ghost use Rattle.mrc_instruction.specs.declared.operand.OperandSize.{OperandSize};
+ghost use Rattle.mrc_forms.specs.Answers.{readBy, readBehind};
 
 // No instruction has this opcode.
-pub fn invalid(opcode: u8) -> Answer
-    ensures { λ r. ⌜ r ≡ readBy opcode invalidRow [] ⌝ }
+pub fn invalid(opcode: u8, at: usize) -> FormRead
+    ensures { λ r. ⌜ r ≡ readBy opcode invalidRow at [] ⌝ }
 {
-    refused(Refusal::InvalidOpCode(opcode), 1)
+    FormRead::Refused(Refusal::InvalidOpCode(opcode), at)
 }
 
 // An operation with no operand.
-pub fn bare(operation: Operation) -> Answer
-    ensures { λ r. ⌜ r ≡ readBy 0 (bare operation) [] ⌝ }
+pub fn bare(operation: Operation, at: usize) -> FormRead
+    ensures { λ r. ⌜ r ≡ readBy 0 (bare operation) at [] ⌝ }
 {
-    decoded(operation, OperandSet::None, 1)
+    FormRead::Got(Instruction::new(operation, OperandSet::None), at)
 }
 
 // PUSH and POP of the segment that bits 4 and 3 of the opcode name.
-pub fn on_segment(operation: Operation, opcode: u8) -> Answer
-    ensures { λ r. ⌜ r ≡ readBy opcode (onSegment operation (segmentOf (opcode / 8 % 4))) [] ⌝ }
+pub fn on_segment(operation: Operation, opcode: u8, at: usize) -> FormRead
+    ensures { λ r. ⌜ r ≡ readBy opcode (onSegment operation (segmentOf (opcode / 8 % 4))) at [] ⌝ }
 {
     let destination = Operand::Segment(Segment::from_low_bits(opcode / 8));
-    decoded(operation, OperandSet::Destination(destination), 1)
+    let operands = OperandSet::Destination(destination);
+    FormRead::Got(Instruction::new(operation, operands), at)
 }
 
 // INC, DEC, PUSH and POP of the word register that the low bits of the opcode name.
-pub fn on_register(operation: Operation, opcode: u8) -> Answer
-    ensures { λ r. ⌜ r ≡ readBy opcode (onRegister operation (registerOf (opcode % 8))) [] ⌝ }
+pub fn on_register(operation: Operation, opcode: u8, at: usize) -> FormRead
+    ensures { λ r. ⌜ r ≡ readBy opcode (onRegister operation (registerOf (opcode % 8))) at [] ⌝ }
 {
     let register = RegisterEncoding::from_low_bits(opcode);
     let destination = Operand::Register(SizedRegisterEncoding(register, OperandSize::Word));
-    decoded(operation, OperandSet::Destination(destination), 1)
+    let operands = OperandSet::Destination(destination);
+    FormRead::Got(Instruction::new(operation, operands), at)
 }
 
 // An operation on an immediate.
-pub fn on_immediate(operation: Operation, size: OperandSize, s: &[u8], at: usize) -> Answer
-    ensures { λ r. ⌜ r ≡ readBy 0 (onImmediate operation size) (drop at (now (s .entry))) ⌝ }
+pub fn on_immediate(operation: Operation, size: OperandSize, s: &[u8], at: usize) -> FormRead
+    ensures { λ r. ⌜ r ≡ readBy 0 (onImmediate operation size) at (drop at (now (s .entry))) ⌝ }
 {
     match read_immediate(size, s, at) {
         ImmediateRead::Got(immediate, n) => {
             let destination = Operand::Immediate(immediate);
-            return decoded(operation, OperandSet::Destination(destination), n + 1);
+            let operands = OperandSet::Destination(destination);
+            return FormRead::Got(Instruction::new(operation, operands), at + n);
         }
-        ImmediateRead::Refused(e, n) => return refused(e, n + 1),
+        ImmediateRead::Refused(e, n) => return FormRead::Refused(e, at + n),
     }
 }
 
 // An operation on a displacement: jumps, calls, and C2.
-pub fn on_displacement(operation: Operation, size: OperandSize, s: &[u8], at: usize) -> Answer
-    ensures { λ r. ⌜ r ≡ readBy 0 (onDisplacement operation size) (drop at (now (s .entry))) ⌝ }
+pub fn on_displacement(operation: Operation, size: OperandSize, s: &[u8], at: usize) -> FormRead
+    ensures { λ r. ⌜ r ≡ readBy 0 (onDisplacement operation size) at (drop at (now (s .entry))) ⌝ }
 {
     match read_displacement(size, s, at) {
         DisplacementRead::Got(displacement, n) => {
             let destination = Operand::Displacement(displacement);
-            return decoded(operation, OperandSet::Destination(destination), n + 1);
+            let operands = OperandSet::Destination(destination);
+            return FormRead::Got(Instruction::new(operation, operands), at + n);
         }
-        DisplacementRead::Refused(e, n) => return refused(e, n + 1),
+        DisplacementRead::Refused(e, n) => return FormRead::Refused(e, at + n),
     }
 }
 
 // 9A and EA: the offset word, then the segment word.
-pub fn far(operation: Operation, s: &[u8], at: usize) -> Answer
-    ensures { λ r. ⌜ r ≡ readBy 0 (farRow operation) (drop at (now (s .entry))) ⌝ }
+pub fn far(operation: Operation, s: &[u8], at: usize) -> FormRead
+    ensures { λ r. ⌜ r ≡ readBy 0 (farRow operation) at (drop at (now (s .entry))) ⌝ }
 {
     match read_u16(s, at) {
         WordRead::Got(offset, n) => match read_u16(s, at + n) {
             WordRead::Got(segment, k) => {
                 let destination = Operand::SegmentAndOffset(Address { segment, offset });
-                return decoded(operation, OperandSet::Destination(destination), n + k + 1);
+                let operands = OperandSet::Destination(destination);
+                return FormRead::Got(Instruction::new(operation, operands), at + n + k);
             }
-            WordRead::Refused(e, k) => return refused(e, n + k + 1),
+            WordRead::Refused(e, k) => return FormRead::Refused(e, at + n + k),
         },
-        WordRead::Refused(e, n) => return refused(e, n + 1),
+        WordRead::Refused(e, n) => return FormRead::Refused(e, at + n),
     }
 }
 
 // D8 to DF: one further byte is taken.
-pub fn escape(s: &[u8], at: usize) -> Answer
-    ensures { λ r. ⌜ r ≡ readBy 0 escapeRow (drop at (now (s .entry))) ⌝ }
+pub fn escape(s: &[u8], at: usize) -> FormRead
+    ensures { λ r. ⌜ r ≡ readBy 0 escapeRow at (drop at (now (s .entry))) ⌝ }
 {
     match read_u8(s, at) {
-        ByteRead::Got(_, n) => return decoded(Operation::ESC, OperandSet::None, n + 1),
-        ByteRead::Refused(e, n) => return refused(e, n + 1),
+        ByteRead::Got(_, n) => return FormRead::Got(
+            Instruction::new(Operation::ESC, OperandSet::None),
+            at + n,
+        ),
+        ByteRead::Refused(e, n) => return FormRead::Refused(e, at + n),
     }
 }
 
 // 8F: POP of a word register or memory, by the operand that its ModRM names, the ModRM's byte and the position behind it. Its displacement is
 // read before reg is tested.
 pub fn pop(destination: Operand, byte: u8, at: usize) -> FormRead
-    ensures { λ r. ⌜ r ≡ formRead at (readFrom (popBehind destination byte) []) ⌝ }
+    ensures { λ r. ⌜ r ≡ readBehind popForm OperandSize.Word destination byte at [] ⌝ }
 {
-    if byte / 8 % 8 != 0 {
+    if reg_field(byte) != 0 {
         return FormRead::Refused(Refusal::InvalidModRegRMEncoding(byte), at);
     }
     let operands = OperandSet::Destination(destination);
     return FormRead::Got(Instruction::new(Operation::POP, operands), at);
 }
 
-// FE and FF, by reg: INC, DEC, CALL, JMP and PUSH of the register or memory.
+// FE and FF, by reg: INC, DEC, CALL, JMP and PUSH of the register or memory, whatever its size.
 pub fn group_fe(destination: Operand, byte: u8, at: usize) -> FormRead
-    ensures { λ r. ⌜ r ≡ FormRead.Got (one (groupFEOperation (byte / 8 % 8)) destination) at ⌝ }
+    ensures { λ r. ⌜ ((size : OperandSize) → r ≡ readBehind groupFE size destination byte at []) ⌝ }
 {
-    let operation = group_fe_operation(byte / 8 % 8);
+    let operation = group_fe_operation(reg_field(byte));
     let operands = OperandSet::Destination(destination);
     return FormRead::Got(Instruction::new(operation, operands), at);
 }

@@ -13,7 +13,7 @@ use Rattle.mrc_instruction.specs.declared.register.RegisterEncoding.the-variant
 use Rattle.mrc_instruction.specs.declared.operand.OperandSize.{OperandSize}
 use Rattle.mrc_instruction.specs.declared.operand.OperandSize.the-variants.{Byte, Word}
 use Rattle.mrc_instruction.specs.declared.operation.Operation.the-variants.{ESC, IN, MOV, OUT, POP, XCHG}
-use Rattle.mrc_rules.specs.Forms.{Row, bare, prefix, invalid, rmReg, regRm, immediateToAccumulator, onSegment, onRegister, onDisplacement, group80, group83, pop, rmSegment, segmentRm, exchange, far, accDirect, directAcc, registerAndImmediate, shiftByImmediate, shiftByOne, shiftByCl, onImmediate, groupC6, escape, inPort, outPort, inDx, outDx, groupF6, groupFE}
+use Rattle.mrc_rules.specs.Forms.{Row, _⦂_, bare, prefix, invalid, rmReg, regRm, immediateToAccumulator, onSegment, onRegister, onDisplacement, group80, group83, pop, rmSegment, segmentRm, exchange, far, accDirect, directAcc, registerAndImmediate, shiftByImmediate, shiftByOne, shiftByCl, onImmediate, groupC6, escape, inPort, outPort, inDx, outDx, groupF6, groupFE}
 use Rattle.mrc_rules.specs.Table.{rows, rowOf}
 use Rattle.mrc_rules.specs.Prefixes.{isPrefix}
 use Rattle.mrc_rules.specs.Operands.{RM, REG, SEGREG, IMMED, ZERO16, MEM, REL, FAR, THE, SEG, ONE, AX, DX, Places, nothing, only, _⟵_, test, places, byteAt, regAt}
@@ -43,34 +43,34 @@ abbrev pub accountOf : Row → Account
 accountOf (bare o) = account nothing (the o) (fixed 0) free
 accountOf prefix = account nothing op.nothing (fixed 0) shut
 accountOf invalid = account nothing op.nothing (fixed 0) shut
-accountOf (rmReg o size) = account (RM size ⟵ REG size) (the o) (modRM 0) free
-accountOf (regRm o size) = account (REG size ⟵ RM size) (the o) (modRM 0) free
+accountOf (rmReg o ⦂ size) = account (RM size ⟵ REG size) (the o) (modRM 0) free
+accountOf (regRm o ⦂ size) = account (REG size ⟵ RM size) (the o) (modRM 0) free
+accountOf (group80 ⦂ size) = account (RM size ⟵ IMMED size) (byReg op.arithmetic) (modRM (bytesIn size)) free
+accountOf (group83 ⦂ size) = account (RM size ⟵ ZERO16) (byReg op.arithmetic) (modRM 1) free
+accountOf (pop ⦂ size) = account (only (RM size)) (the POP) (modRM 0) popped
+accountOf (rmSegment ⦂ size) = account (RM size ⟵ SEGREG) (the MOV) (modRM 0) segment
+accountOf (segmentRm ⦂ size) = account (SEGREG ⟵ RM size) (the MOV) (modRM 0) segment
+accountOf (shiftByImmediate ⦂ size) = account (RM size ⟵ IMMED Byte) (byReg op.shifts) (modRM 1) free
+accountOf (shiftByOne ⦂ size) = account (RM size ⟵ ONE) (byReg op.shifts) (modRM 0) free
+accountOf (shiftByCl ⦂ size) = account (RM size ⟵ THE ClCx size) (byReg op.shifts) (modRM 0) free
+accountOf (groupC6 ⦂ size) = account (RM size ⟵ IMMED size) (the MOV) (modRM (bytesIn size)) free
+accountOf (groupF6 ⦂ size) = account (test (RM size) (IMMED size)) (byReg op.groupF6) (tested (bytesIn size)) grouped
+accountOf (groupFE ⦂ size) = account (only (RM size)) (byReg op.transfers) (modRM 0) free
 accountOf (immediateToAccumulator o size) = account (THE AlAx size ⟵ IMMED size) (the o) (fixed (bytesIn size)) free
 accountOf (onSegment o s) = account (only (SEG s)) (the o) (fixed 0) free
 accountOf (onRegister o r) = account (only (THE r Word)) (the o) (fixed 0) free
 accountOf (onDisplacement o size) = account (only (REL size)) (the o) (fixed (bytesIn size)) free
-accountOf (group80 size) = account (RM size ⟵ IMMED size) (byReg op.arithmetic) (modRM (bytesIn size)) free
-accountOf group83 = account (RM Word ⟵ ZERO16) (byReg op.arithmetic) (modRM 1) free
-accountOf pop = account (only (RM Word)) (the POP) (modRM 0) popped
-accountOf rmSegment = account (RM Word ⟵ SEGREG) (the MOV) (modRM 0) segment
-accountOf segmentRm = account (SEGREG ⟵ RM Word) (the MOV) (modRM 0) segment
 accountOf (exchange r) = account (AX ⟵ THE r Word) (the XCHG) (fixed 0) free
 accountOf (far o) = account (only FAR) (the o) (fixed 4) free
 accountOf (accDirect size) = account (THE AlAx size ⟵ MEM size) (the MOV) (fixed 2) free
 accountOf (directAcc size) = account (MEM size ⟵ THE AlAx size) (the MOV) (fixed 2) free
 accountOf (registerAndImmediate r size) = account (THE r size ⟵ IMMED size) (the MOV) (fixed (bytesIn size)) free
-accountOf (shiftByImmediate size) = account (RM size ⟵ IMMED Byte) (byReg op.shifts) (modRM 1) free
-accountOf (shiftByOne size) = account (RM size ⟵ ONE) (byReg op.shifts) (modRM 0) free
-accountOf (shiftByCl size) = account (RM size ⟵ THE ClCx size) (byReg op.shifts) (modRM 0) free
 accountOf (onImmediate o size) = account (only (IMMED size)) (the o) (fixed (bytesIn size)) free
-accountOf (groupC6 size) = account (RM size ⟵ IMMED size) (the MOV) (modRM (bytesIn size)) free
 accountOf escape = account nothing (the ESC) (fixed 1) free
 accountOf (inPort size) = account (THE AlAx size ⟵ IMMED Byte) (the IN) (fixed 1) free
 accountOf (outPort size) = account (IMMED Byte ⟵ THE AlAx size) (the OUT) (fixed 1) free
 accountOf (inDx size) = account (THE AlAx size ⟵ DX) (the IN) (fixed 0) free
 accountOf (outDx size) = account (DX ⟵ THE AlAx size) (the OUT) (fixed 0) free
-accountOf (groupF6 size) = account (test (RM size) (IMMED size)) (byReg op.groupF6) (tested (bytesIn size)) grouped
-accountOf (groupFE size) = account (only (RM size)) (byReg op.transfers) (modRM 0) free
 
 -- what a test decides, by the bytes from the opcode on
 abbrev pub verdictBy : Bar → List ℕ → Verdict

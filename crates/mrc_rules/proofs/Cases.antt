@@ -4,6 +4,7 @@ use mathlib.Core.Path.{_≡_, refl}
 use mathlib.Core.List.{[], _∷_, map}
 use mathlib.Core.Option.{some}
 use lib.ListN.{length}
+use Rattle.mrc_rules.specs.Forms.{withModRM}
 use Rattle.mrc_rules.specs.Table.{rows, rowOf}
 use Rattle.mrc_rules.specs.Prefixes.{overrideSegment, repeatOf}
 use Rattle.mrc_rules.specs.Cases.{Case, cases, easilyMistaken}
@@ -18,11 +19,11 @@ unfolding rows
 table-whole = refl
 
 pub cases-hold : map (λ (c : Case). decodeAt (c .input) 0 (c .budget)) cases ≡ map (λ (c : Case). c .answer) cases
-unfolding rows rowOf aByte aWord
+unfolding rows rowOf aByte aWord withModRM
 cases-hold = refl
 
 pub mistaken : map (λ (c : Case). decodeAt (c .input) 0 (c .budget)) easilyMistaken ≡ map (λ (c : Case). c .answer) easilyMistaken
-unfolding rows rowOf aByte aWord
+unfolding rows rowOf aByte aWord withModRM
 mistaken = refl
 
 pub overrides-named : map overrideSegment (0x26 ∷ 0x2E ∷ 0x36 ∷ 0x3E ∷ []) ≡ ES ∷ CS ∷ SS ∷ DS ∷ []

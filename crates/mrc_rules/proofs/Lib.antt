@@ -1,6 +1,6 @@
 pub mod Cases
 pub mod Runs
-pub mod Strike
+pub mod Striking
 pub mod Answers
 pub mod Counting
 pub mod PrefixLaw
@@ -10,7 +10,7 @@ pub mod Places
 pub mod Rows
 pub mod Tails
 pub mod Operands
-pub mod Length
+pub mod Lengths
 pub mod Refusals
 pub mod Order
 pub mod Main

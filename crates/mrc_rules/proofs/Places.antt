@@ -19,10 +19,10 @@ use Rattle.mrc_instruction.specs.declared.mrrm.RegisterOrMemory.{RegisterOrMemo
 use Rattle.mrc_instruction.specs.Errors.{numberOf, byteOf}
 use Rattle.mrc_instruction.specs.Reader.{Reader, done, _>>=_, aByte, aWord}
 use Rattle.mrc_instruction.specs.Signed.{signedByte, signedWord}
-use Rattle.mrc_instruction.specs.Register.{segmentOf}
+use Rattle.mrc_instruction.specs.Register.{registerOf, segmentOf}
 use Rattle.mrc_instruction.specs.Operand.{addressingOf}
-use Rattle.mrc_instruction.specs.Mrrm.{ModRM, registerOrMemory, modRM, aModRM, regField, operandOf}
-use Rattle.mrc_rules.specs.Forms.{Tail, anImmediate, aDisplacement, rm, reg}
+use Rattle.mrc_instruction.specs.Mrrm.{registerOrMemory, modRM, aModRM, regField, operandOf}
+use Rattle.mrc_rules.specs.Forms.{Tail, anImmediate, aDisplacement, register, rm, reg, segmentReg}
 use Rattle.mrc_rules.specs.Operands.{Place, RM, REG, SEGREG, IMMED, REL, byteAt, lastByte, lastWord, regAt, named, operandAt, operandsAt}
 use Rattle.mrc_rules.specs.Operations.{nameAt}
 use Rattle.mrc_rules.specs.Lengths.{displacementBy, displacementBytes, lengthBy}
@@ -40,20 +40,25 @@ at-end S l h = subst S (append-nil l) (h [])
 followed-by : (S : List ℕ → Type 0) (l y : List ℕ) → Followed S l → Followed S (l ++ y)
 followed-by S l y h x = subst S (sym (append-assoc l y x)) (h (y ++ x))
 
--- what a ModRM says of the bytes that it was read from
-pub record Says (m : ModRM) (l : List ℕ) : Type 0 where
-  pub by-rm : (size : OperandSize) → rm m size ≡ operandAt l (RM size)
-  pub by-reg : (size : OperandSize) → reg m size ≡ operandAt l (REG size)
-  pub field : regField m ≡ regAt l
-  pub second : byteAt l 1 ≡ m .byte
+-- what a ModRM's operand of a size and its byte say of the bytes that they were read from
+pub record Says (size : OperandSize) (operand : Operand) (byte : ℕ) (l : List ℕ) : Type 0 where
+  pub by-rm : operand ≡ operandAt l (RM size)
+  pub second : byteAt l 1 ≡ byte
+
+-- what reg names
+module _ {size : OperandSize} {operand : Operand} {byte : ℕ} {l : List ℕ} (s : Says size operand byte l) where
+  pub field : regField byte ≡ regAt l
+  field = ap regField (sym (s .second))
+
+  pub by-reg : reg byte size ≡ operandAt l (REG size)
+  by-reg = ap (λ (n : ℕ). register (registerOf n) size) field
+
+  pub by-segment : segmentReg byte ≡ operandAt l SEGREG
+  by-segment = ap (λ (n : ℕ). Operand.Segment (segmentOf n)) field
 
 pub record Names (b mode field : ℕ) (x : RegisterOrMemory) (l : List ℕ) : Type 0 where
   pub is : (size : OperandSize) → operandOf size x ≡ named mode field size l
   pub behind : byteAt l 1 ≡ b
-
--- the segment that reg names
-pub by-segment : (m : ModRM) (l : List ℕ) → Says m l → Operand.Segment (segmentOf (regField m)) ≡ operandAt l SEGREG
-by-segment m l s = ap (λ (n : ℕ). Operand.Segment (segmentOf n)) (s .field)
 
 -- what an account says where a byte is asked for, of a refusal, and of what was read
 module _ (c : Account) where
@@ -74,8 +79,8 @@ module _ (c : Account) where
   Walk = Along Waits RefusedBy ReadBy
 
 -- a ModRM and its displacement, under any claims that hold where fewer bytes are read than they have
-abbrev pub Modrm : ModRM → List ℕ → Type 0
-Modrm m l = Followed (Says m) l × (length l ≡ 2 + displacementBytes (m .byte))
+abbrev pub Modrm : OperandSize → Operand → ℕ → List ℕ → Type 0
+Modrm size operand byte l = Followed (Says size operand byte) l × (length l ≡ 2 + displacementBytes byte)
 
 module _ (W : List ℕ → Type 0) (P : Refusal → List ℕ → Type 0) where
   rm-along : (opcode b mode field : ℕ) → ((l : List ℕ) → byteAt l 1 ≡ b → length l < 2 + displacementBy mode field → W l)
@@ -104,22 +109,15 @@ module _ (W : List ℕ → Type 0) (P : Refusal → List ℕ → Type 0) where
   )
   rm-along opcode b (suc (suc (suc n))) field asks = (λ x. record { is = λ size. refl; behind = refl }, refl)
 
-  pub modrm-along : (opcode : ℕ) → ((l : List ℕ) → length l < 2 + displacementBytes (byteAt l 1) → W l) → Along W P Modrm (opcode ∷ []) aModRM
+  pub modrm-along : (opcode : ℕ) (size : OperandSize) → ((l : List ℕ) → length l < 2 + displacementBytes (byteAt l 1) → W l)
+      → Along W P (λ m. Modrm size (rm m size) (m .byte)) (opcode ∷ []) aModRM
   unfolding aByte displacementBytes
-  modrm-along opcode asks = (
+  modrm-along opcode size asks = (
     asks (opcode ∷ []) (omega arith),
     λ b.
-        along-bind W P _ Modrm (opcode ∷ b ∷ []) (registerOrMemory (b / 64) (b % 8)) (λ x. done (modRM b x))
+        along-bind W P _ _ (opcode ∷ b ∷ []) (registerOrMemory (b / 64) (b % 8)) (λ x. done (modRM b x))
         (rm-along opcode b (b / 64) (b % 8) (λ l e h. asks l (rw e h)))
-        (λ r l h. (
-          λ x. record {
-            by-rm = λ size. rw (h .0 x .behind) (h .0 x .is size);
-            by-reg = λ size. rw (h .0 x .behind) refl;
-            field = rw (h .0 x .behind) refl;
-            second = h .0 x .behind;
-          },
-          h .1,
-        )),
+        (λ r l h. (λ x. record { by-rm = rw (h .0 x .behind) (h .0 x .is size); second = h .0 x .behind }, h .1)),
   )
 
   -- an immediate and a displacement, read after l: the operand is in the last bytes, and what holds of l followed by anything still holds

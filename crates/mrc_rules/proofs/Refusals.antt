@@ -13,14 +13,14 @@ use lib.Seq.{getD-drop, drop-append-seam}
 use Rattle.mrc_instruction.specs.declared.errors.Refusal.{Refusal}
 use Rattle.mrc_instruction.specs.declared.instruction.OperandSet.{OperandSet}
 use Rattle.mrc_instruction.specs.Values.{carrying}
-use Rattle.mrc_instruction.specs.Reader.{Outcome, got, stopped, takenBy}
+use Rattle.mrc_instruction.specs.Reader.{Bytes, Outcome, got, stopped, takenBy}
 use Rattle.mrc_rules.specs.declared.Answer.{Answer}
 use Rattle.mrc_rules.specs.Answer.{valuesOf}
 use Rattle.mrc_rules.specs.Forms.{Tail}
 use Rattle.mrc_rules.specs.Prefixes.{isOverride, isRepeat, runOf, tailOf, first, repeatOf, under}
 use Rattle.mrc_rules.specs.Decode.{tail, resultOf, together, answer, decodeBy, decodeAt, rules}
 use Rattle.mrc_rules.specs.Operands.{byteAt}
-use Rattle.mrc_rules.specs.Refusals.{Bytes, verdictOf, takenOf, isBare, underPrefixes, tabled}
+use Rattle.mrc_rules.specs.Refusals.{verdictOf, takenOf, isBare, underPrefixes, tabled}
 use Rattle.mrc_rules.proofs.Runs.{tail-none, run-tail}
 use Rattle.mrc_rules.proofs.Tails.{Comes, isNone, tail-comes, Told, verdict, tail-told}
 

@@ -8,7 +8,7 @@ use mathlib.Core.Option.{some}
 use Prim.Native.Nat.{ℕ, suc, _+_, _≤_, _<_}
 use native.Mathlib.Omega.{arith}
 use borrow.Author.Tests.{lt-ltb, le-ltb}
-use lib.Dec.{eqb}
+use lib.Dec.{eqb, ltb}
 use lib.ListN.{length, getD, take, drop, take-append-drop}
 use lib.Seq.{length-take-le}
 use Rattle.mrc_instruction.specs.declared.errors.Refusal.{Refusal}
@@ -25,7 +25,7 @@ use Rattle.mrc_rules.specs.Operations.{nameAt, operationOf}
 use Rattle.mrc_rules.specs.Lengths.{Extra, lengthBy, wholeLength}
 use Rattle.mrc_rules.specs.Refusals.{Verdict, read, refused, byOpcode, verdictOf, takenOf, noPlaces, isBare}
 use Rattle.mrc_rules.proofs.Along.{Holds, along}
-use Rattle.mrc_rules.proofs.Accounts.{Account, accountOf, verdictBy, row-places, row-name, row-extra, row-verdict}
+use Rattle.mrc_rules.proofs.Accounts.{Account, accountOf, Bar, free, shut, popped, segment, grouped, verdictBy, row-places, row-name, row-extra, row-verdict}
 use Rattle.mrc_rules.proofs.Places.{Waits, RefusedBy, ReadBy}
 use Rattle.mrc_rules.proofs.Rows.{row-along}
 use Rattle.mrc_rules.proofs.Counting.{tail-there}
@@ -109,6 +109,35 @@ tail-comes opcode l =
           short = subst (λ (x : Extra). length (opcode ∷ l) < lengthBy x (opcode ∷ l)) (row-extra opcode) (w .2);
         }))
         r
+
+-- a tail's refusal has a number below 9: those from 9 on are refusals of a decode
+abbrev numberIn : Verdict → ℕ
+numberIn read = 0
+numberIn (refused number byte) = number
+
+either : (t : Bool) (x y : Verdict) → numberIn x < 9 → numberIn y < 9 → numberIn (cond t x y) < 9
+either true x y h k = h
+either false x y h k = k
+
+below-nine : (t : Bar) (l : List ℕ) → numberIn (verdictBy t l) < 9
+below-nine free l = omega arith
+below-nine shut l = omega arith
+below-nine popped l = either (eqb (regAt l) 0) _ _ (omega arith) (omega arith)
+below-nine segment l = either (ltb (regAt l) 4) _ _ (omega arith) (omega arith)
+below-nine grouped l = either (eqb (regAt l) 1) _ _ (omega arith) (omega arith)
+
+abbrev pub OfTail : Outcome Tail → Type 0
+OfTail (got i n) = Unit {0}
+OfTail (stopped e n) = numberOf e < 9
+
+pub tail-number : (l : List ℕ) → OfTail (tail rules l)
+tail-number [] = omega arith
+tail-number (opcode ∷ l) = go (tail rules (opcode ∷ l)) (tail-comes opcode l)
+  where
+    go : (o : Outcome Tail) → Comes (opcode ∷ l) o → OfTail o
+    go (got i n) h = tt
+    go (stopped e n) h =
+        ⊎-elim (λ w. rw (ap numberIn (w .told)) at (below-nine (accountOf (rowOf opcode) .bar) (opcode ∷ l))) (λ w. rw (w .number) (omega arith)) h
 
 -- what the table of refusals says of a tail
 abbrev pub verdict : Outcome Tail → Verdict

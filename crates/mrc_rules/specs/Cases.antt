@@ -1,4 +1,4 @@
--- "Readings to prove": the numbered cases, each an input under its budget with the answer that it has.
+-- Rules 16.1 and 16.2: the numbered cases, each an input under its budget with the answer that it has.
 use Prim.Native.Nat.{ℕ}
 use mathlib.Core.List.{List, [], _∷_}
 use lib.IntN.{pos, negsuc}
@@ -61,7 +61,7 @@ repeatedMov = record {
   operands = OperandSet.DestinationAndSource (register AlAx Word) (Operand.Indirect ES Word Bx Displacement.None);
 }
 
--- inputs that a decoder may get wrong and still look right
+-- rule 16.2: inputs that a decoder may get wrong and still look right
 abbrev pub easilyMistaken : List Case
 easilyMistaken =
     -- 83 widens its byte with zeros, whatever reg is

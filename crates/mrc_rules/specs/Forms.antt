@@ -1,5 +1,5 @@
--- "Opcode rules": the forms, and how the bytes after an opcode are read in each. A row of the opcode table is a form with its operation, size,
--- register or segment. "'rm,reg' means destination, source."
+-- Section 5: the forms, and how the bytes after an opcode are read in each. A row of the opcode table is a form with its operation, size, register
+-- or segment. In a name the destination stands before the source: `rmReg` has the operand of mod and rm first.
 use Prim.Native.Nat.{ℕ, zero, suc}
 use mathlib.Core.Bool.{cond}
 use mathlib.Core.List.{[], _∷_}
@@ -17,33 +17,37 @@ use Rattle.mrc_instruction.specs.declared.instruction.OperandSet.{OperandSet}
 use Rattle.mrc_instruction.specs.declared.instruction.Instruction.{Instruction}
 use Rattle.mrc_instruction.specs.declared.operation.Operation.{Operation}
 use Rattle.mrc_instruction.specs.declared.operation.Operation.the-variants.{ADC, ADD, AND, CALL, CMP, DEC, DIV, ESC, IDIV, IMUL, IN, INC, JMP, MOV, MUL, NEG, NOT, OR, OUT, POP, PUSH, RCL, RCR, ROL, ROR, SAR, SBB, SHL, SHR, SUB, TEST, XCHG, XOR}
-use Rattle.mrc_instruction.specs.Register.{segmentOf}
+use Rattle.mrc_instruction.specs.Register.{registerOf, segmentOf}
 use Rattle.mrc_instruction.specs.Signed.{signedByte, signedWord}
 use Rattle.mrc_instruction.specs.Reader.{Reader, done, refuse, _>>=_, aByte, aWord}
 use Rattle.mrc_instruction.specs.Mrrm.{ModRM, regField, aModRM, operandOf}
 use Rattle.mrc_instruction.specs.Instruction.{plain}
 
+-- the forms with a ModRM
+pub data ModRMForm : Type 0 where
+  rmReg regRm : Operation → ModRMForm
+  group80 group83 pop : ModRMForm
+  rmSegment segmentRm : ModRMForm
+  shiftByImmediate shiftByOne shiftByCl : ModRMForm
+  groupC6 groupF6 groupFE : ModRMForm
+
+infix 70 _⦂_
 pub data Row : Type 0 where
   bare : Operation → Row
   prefix invalid : Row
-  rmReg regRm : Operation → OperandSize → Row
+  -- the form and its size, which is that of the operand of mod and rm
+  _⦂_ : ModRMForm → OperandSize → Row
   immediateToAccumulator : Operation → OperandSize → Row
   onSegment : Operation → Segment → Row
   onRegister : Operation → RegisterEncoding → Row
   onDisplacement : Operation → OperandSize → Row
-  group80 : OperandSize → Row
-  group83 pop : Row
-  rmSegment segmentRm : Row
   exchange : RegisterEncoding → Row
   far : Operation → Row
   accDirect directAcc : OperandSize → Row
   registerAndImmediate : RegisterEncoding → OperandSize → Row
-  shiftByImmediate shiftByOne shiftByCl : OperandSize → Row
   onImmediate : Operation → OperandSize → Row
-  groupC6 : OperandSize → Row
   escape : Row
   inPort outPort inDx outDx : OperandSize → Row
-  groupF6 groupFE : OperandSize → Row
 
 -- what the bytes behind the prefixes come to
 abbrev pub Tail : Type 0
@@ -67,7 +71,8 @@ abbrev pub aDisplacement : OperandSize → Reader Displacement
 aDisplacement Byte = aByte >>= λ b. done (Displacement.Byte (signedByte b))
 aDisplacement Word = aWord >>= λ w. done (Displacement.Word (signedWord w))
 
--- operands: a register of a size, the accumulator, DX ("DX is a word"); what a ModRM's mod and rm name, and what its reg names
+-- operands: a register of a size, the accumulator, DX as a word; what a ModRM's mod and rm name, and what the reg of its byte names, as a
+-- register and as a segment
 abbrev pub register : RegisterEncoding → OperandSize → Operand
 register r size = Operand.Register (record { 0 = r; 1 = size })
 
@@ -80,10 +85,13 @@ dx = register RegisterEncoding.DlDx Word
 abbrev pub rm : ModRM → OperandSize → Operand
 rm m size = operandOf size (m .mrrm .«register_or_memory»)
 
-abbrev pub reg : ModRM → OperandSize → Operand
-reg m size = register (m .mrrm .register) size
+abbrev pub reg : ℕ → OperandSize → Operand
+reg byte size = register (registerOf (regField byte)) size
 
--- the operations by reg: "ADD OR ADC SBB AND SUB XOR CMP"; "ROL ROR RCL RCR SHL SHR SHL SAR"; "INC DEC CALL CALL JMP JMP PUSH PUSH"
+abbrev pub segmentReg : ℕ → Operand
+segmentReg byte = Operand.Segment (segmentOf (regField byte))
+
+-- rule 5.3: the operations by reg: of 80 to 83, and of 00 to 3F by the same bits of the opcode; of the shifts; of FE and FF
 abbrev pub arithmetic : ℕ → Operation
 arithmetic n = getD (ADD ∷ OR ∷ ADC ∷ SBB ∷ AND ∷ SUB ∷ XOR ∷ CMP ∷ []) n CMP
 
@@ -93,7 +101,7 @@ shift n = getD (ROL ∷ ROR ∷ RCL ∷ RCR ∷ SHL ∷ SHR ∷ SHL ∷ SAR ∷ 
 abbrev pub groupFEOperation : ℕ → Operation
 groupFEOperation n = getD (INC ∷ DEC ∷ CALL ∷ CALL ∷ JMP ∷ JMP ∷ PUSH ∷ PUSH ∷ []) n PUSH
 
--- "F6, F7 by reg: TEST with immediate, refused, NOT NEG MUL IMUL DIV IDIV"
+-- rule 5.3: of F6 and F7 from reg 2 on; at 0 it is TEST with an immediate, and 1 is refused
 abbrev pub groupF6Operation : ℕ → Operation
 groupF6Operation n = getD (NOT ∷ NEG ∷ MUL ∷ IMUL ∷ DIV ∷ IDIV ∷ []) n IDIV
 
@@ -102,41 +110,43 @@ groupF6By zero destination size = anImmediate size >>= λ i. done (two TEST dest
 groupF6By (suc zero) destination size = refuse (Refusal.InvalidOpCode 1)
 groupF6By (suc (suc n)) destination size = done (one (groupF6Operation n) destination)
 
--- what follows an opcode, by its row
+-- a ModRM, and then what is read by the operand of a size that its mod and rm name and by its byte
+unfoldable pub withModRM : OperandSize → (Operand → ℕ → Reader Tail) → Reader Tail
+withModRM size f = aModRM >>= λ m. f (rm m size) (m .byte)
+
+-- rule 5.2: what a form reads behind its ModRM
+abbrev pub behind : ModRMForm → OperandSize → Operand → ℕ → Reader Tail
+behind (rmReg op) size operand byte = done (two op operand (reg byte size))
+behind (regRm op) size operand byte = done (two op (reg byte size) operand)
+behind group80 size operand byte = anImmediate size >>= λ i. done (two (arithmetic (regField byte)) operand (Operand.Immediate i))
+-- rule 5.4: 83 widens its byte with zeros
+behind group83 size operand byte = aByte >>= λ b. done (two (arithmetic (regField byte)) operand (Operand.Immediate (Immediate.Word b)))
+-- rule 5.5: 8F is POP where reg is 0
+behind pop size operand byte = cond (eqb (regField byte) 0) (done (one POP operand)) (refuse (Refusal.InvalidModRegRMEncoding byte))
+-- rule 5.6: four of the eight regs name a segment
+behind rmSegment size operand byte =
+    cond (ltb (regField byte) 4) (done (two MOV operand (segmentReg byte))) (refuse (Refusal.InvalidSegmentEncoding (regField byte)))
+behind segmentRm size operand byte =
+    cond (ltb (regField byte) 4) (done (two MOV (segmentReg byte) operand)) (refuse (Refusal.InvalidSegmentEncoding (regField byte)))
+behind shiftByImmediate size operand byte = anImmediate Byte >>= λ i. done (two (shift (regField byte)) operand (Operand.Immediate i))
+behind shiftByOne size operand byte = done (two (shift (regField byte)) operand (Operand.Immediate (Immediate.Byte 1)))
+behind shiftByCl size operand byte = done (two (shift (regField byte)) operand (register RegisterEncoding.ClCx size))
+behind groupC6 size operand byte = anImmediate size >>= λ i. done (two MOV operand (Operand.Immediate i))
+behind groupF6 size operand byte = groupF6By (regField byte) operand size
+behind groupFE size operand byte = done (one (groupFEOperation (regField byte)) operand)
+
+-- rule 5.2: what follows an opcode, by its row
 abbrev pub rest : ℕ → Row → Reader Tail
 rest opcode (bare op) = done (none op)
 rest opcode prefix = refuse (Refusal.InvalidOpCode opcode)
 rest opcode invalid = refuse (Refusal.InvalidOpCode opcode)
-rest opcode (rmReg op size) = aModRM >>= λ m. done (two op (rm m size) (reg m size))
-rest opcode (regRm op size) = aModRM >>= λ m. done (two op (reg m size) (rm m size))
+rest opcode (form ⦂ size) = withModRM size (behind form size)
 rest opcode (immediateToAccumulator op size) = anImmediate size >>= λ i. done (two op (acc size) (Operand.Immediate i))
 rest opcode (onSegment op s) = done (one op (Operand.Segment s))
 rest opcode (onRegister op r) = done (one op (register r Word))
 rest opcode (onDisplacement op size) = aDisplacement size >>= λ d. done (one op (Operand.Displacement d))
-rest opcode (group80 size) = do
-  m ← aModRM
-  i ← anImmediate size
-  done (two (arithmetic (regField m)) (rm m size) (Operand.Immediate i))
--- "83: word rm, one byte widened with zeros"
-rest opcode group83 = do
-  m ← aModRM
-  b ← aByte
-  done (two (arithmetic (regField m)) (rm m Word) (Operand.Immediate (Immediate.Word b)))
--- "opcode 8F, reg not 0"
-rest opcode pop = aModRM >>= λ m. cond (eqb (regField m) 0) (done (one POP (rm m Word))) (refuse (Refusal.InvalidModRegRMEncoding (m .byte)))
--- "8C and 8E with reg 4 to 7"
-rest opcode rmSegment = do
-  m ← aModRM
-  cond (ltb (regField m) 4)
-      (done (two MOV (rm m Word) (Operand.Segment (segmentOf (regField m)))))
-      (refuse (Refusal.InvalidSegmentEncoding (regField m)))
-rest opcode segmentRm = do
-  m ← aModRM
-  cond (ltb (regField m) 4)
-      (done (two MOV (Operand.Segment (segmentOf (regField m))) (rm m Word)))
-      (refuse (Refusal.InvalidSegmentEncoding (regField m)))
 rest opcode (exchange r) = done (two XCHG (acc Word) (register r Word))
--- "offset word, then segment word"
+-- rule 5.2: the offset comes before the segment
 rest opcode (far op) = do
   offset ← aWord
   segment ← aWord
@@ -144,22 +154,10 @@ rest opcode (far op) = do
 rest opcode (accDirect size) = aWord >>= λ w. done (two MOV (acc size) (Operand.Direct Segment.DS size w))
 rest opcode (directAcc size) = aWord >>= λ w. done (two MOV (Operand.Direct Segment.DS size w) (acc size))
 rest opcode (registerAndImmediate r size) = anImmediate size >>= λ i. done (two MOV (register r size) (Operand.Immediate i))
-rest opcode (shiftByImmediate size) = do
-  m ← aModRM
-  i ← anImmediate Byte
-  done (two (shift (regField m)) (rm m size) (Operand.Immediate i))
-rest opcode (shiftByOne size) = aModRM >>= λ m. done (two (shift (regField m)) (rm m size) (Operand.Immediate (Immediate.Byte 1)))
-rest opcode (shiftByCl size) = aModRM >>= λ m. done (two (shift (regField m)) (rm m size) (register RegisterEncoding.ClCx size))
 rest opcode (onImmediate op size) = anImmediate size >>= λ i. done (one op (Operand.Immediate i))
-rest opcode (groupC6 size) = do
-  m ← aModRM
-  i ← anImmediate size
-  done (two MOV (rm m size) (Operand.Immediate i))
--- "one further byte taken, no operand"
+-- rule 5.2: ESC reads a byte and makes nothing of it
 rest opcode escape = aByte >>= λ b. done (none ESC)
 rest opcode (inPort size) = anImmediate Byte >>= λ i. done (two IN (acc size) (Operand.Immediate i))
 rest opcode (outPort size) = anImmediate Byte >>= λ i. done (two OUT (Operand.Immediate i) (acc size))
 rest opcode (inDx size) = done (two IN (acc size) dx)
 rest opcode (outDx size) = done (two OUT dx (acc size))
-rest opcode (groupF6 size) = aModRM >>= λ m. groupF6By (regField m) (rm m size) size
-rest opcode (groupFE size) = aModRM >>= λ m. done (one (groupFEOperation (regField m)) (rm m size))

@@ -1,4 +1,4 @@
--- How many bytes an instruction has from its opcode on, by its first two bytes: a second account of lengths beside the forms.
+-- Rules 6.2 and 8.7: how many bytes an instruction has from its opcode on, by its first two bytes: a second account of lengths beside the forms.
 use Prim.Native.Nat.{ℕ, zero, suc, _+_, _/_, _%_}
 use mathlib.Core.Bool.{cond}
 use mathlib.Core.List.{List, [], _∷_, _++_}

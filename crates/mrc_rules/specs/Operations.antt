@@ -1,4 +1,4 @@
--- Which operation an instruction's bytes name: a second account of operations beside the rows, by the first byte and, in a group, by reg.
+-- Rule 6.2: which operation an instruction's bytes name: a second account of operations beside the rows, by the first byte and, in a group, by reg.
 use Prim.Native.Nat.{ℕ}
 use mathlib.Core.List.{List, [], _∷_, _++_}
 use mathlib.Core.Option.{Option, none, some}

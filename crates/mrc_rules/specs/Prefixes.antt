@@ -1,4 +1,4 @@
--- "Prefixes": the bytes, the whole run at the front, its first override and first repeat, the tail behind it, and what an override does.
+-- Section 7: the prefix bytes, the whole run at the front, its first override and first repeat, the tail behind it, and what an override does.
 use Prim.Native.Nat.{ℕ, _/_, _%_}
 use mathlib.Core.Bool.{Bool, cond, _||_}
 use mathlib.Core.List.{List, [], _∷_}
@@ -14,14 +14,14 @@ use Rattle.mrc_instruction.specs.declared.instruction.Instruction.{Instruction}
 use Rattle.mrc_instruction.specs.Register.{segmentOf}
 use Rattle.mrc_rules.specs.Forms.{Tail}
 
--- "Segment overrides are 26, 2E, 36, 3E for ES, CS, SS, DS."
+-- rule 7.1: the segment overrides
 abbrev pub isOverride : ℕ → Bool
 isOverride b = eqb b 0x26 || eqb b 0x2E || eqb b 0x36 || eqb b 0x3E
 
 abbrev pub overrideSegment : ℕ → Segment
 overrideSegment b = segmentOf (b / 8 % 4)
 
--- "Repeat prefixes are F2 (NotEqual) and F3 (Equal)."
+-- rule 7.2: the repeats
 abbrev pub isRepeat : ℕ → Bool
 isRepeat b = eqb b 0xF2 || eqb b 0xF3
 
@@ -32,7 +32,7 @@ repeatOf (some b) = cond (eqb b 0xF2) (Repeated.Some Repeat.NotEqual) (Repeated.
 abbrev pub isPrefix : ℕ → Bool
 isPrefix b = isOverride b || isRepeat b
 
--- the whole run of prefix bytes at the front, and "The tail is what follows the prefixes."
+-- rule 7.4: the run of prefixes at the front, and the tail behind it
 abbrev pub runOf : List ℕ → List ℕ
 runOf [] = []
 runOf (b ∷ l) = cond (isPrefix b) (b ∷ runOf l) []
@@ -41,12 +41,12 @@ abbrev pub tailOf : List ℕ → List ℕ
 tailOf [] = []
 tailOf (b ∷ l) = cond (isPrefix b) (tailOf l) (b ∷ l)
 
--- "The first prefix of its kind wins."
+-- rule 7.5: the first of a kind
 abbrev pub first : (ℕ → Bool) → List ℕ → Option ℕ
 first kind [] = none
 first kind (b ∷ l) = cond (kind b) (some b) (first kind l)
 
--- "An override replaces the segment of each Direct and Indirect operand. Other operands stay."
+-- rule 7.6: memory is in the override's segment, and nothing else changes
 abbrev pub inSegment : Segment → Operand → Operand
 inSegment s (Operand.Direct was size offset) = Operand.Direct s size offset
 inSegment s (Operand.Indirect was size mode displacement) = Operand.Indirect s size mode displacement
@@ -65,7 +65,7 @@ pub data Result : Type 0 where
 abbrev pub made : Tail → Repeated → OperandSet → Instruction
 made i repeat operands = record { repeat = repeat; operation = i .operation; operands = operands }
 
--- the tail's instruction, which has these operands, under the override o: "the answer is 9 with the first override if the tail .. has no operands"
+-- the tail's instruction, which has these operands, under the override o: rules 7.6 and 7.7
 abbrev pub under : ℕ → Repeated → Tail → OperandSet → Result
 under o r i OperandSet.None = refuses (Refusal.InvalidPrefix o)
 under o r i (OperandSet.Destination d) = reads (made i r (OperandSet.Destination (inSegment (overrideSegment o) d)))

@@ -1,6 +1,6 @@
--- When a decode refuses and when it answers an instruction, with which number, byte and counts, by the bytes alone: the run of prefixes,
--- the first byte behind it, the reg of the byte behind that, and where the input ends. A second account of refusals beside the forms.
-use Prim.Native.Nat.{ℕ, _+_, _<_, min}
+-- Rules 6.2 and 9.1: when a decode refuses and when it answers an instruction, with which number, byte and counts, by the bytes alone: the run of
+-- prefixes, the first byte behind it, the reg of the byte behind that, and where the input ends. A second account of refusals beside the forms.
+use Prim.Native.Nat.{ℕ, _+_, min}
 use mathlib.Core.Bool.{Bool, true, false, cond, _||_, _&&_}
 use mathlib.Core.List.{List, [], _∷_}
 use mathlib.Core.Option.{Option, none, some}
@@ -10,10 +10,6 @@ use Rattle.mrc_instruction.specs.Values.{Values, carrying}
 use Rattle.mrc_rules.specs.Prefixes.{isOverride, runOf, tailOf, first}
 use Rattle.mrc_rules.specs.Operands.{Places, nothing, only, _⟵_, test, places, byteAt, regAt}
 use Rattle.mrc_rules.specs.Lengths.{wholeLength}
-
--- every element of a slice is a byte
-abbrev pub Bytes : List ℕ → Type 0
-Bytes s = (k : ℕ) → getD s k 0 < 256
 
 -- the first bytes that begin no instruction
 abbrev pub isUnread : ℕ → Bool

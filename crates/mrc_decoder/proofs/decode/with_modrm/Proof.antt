@@ -1,10 +1,12 @@
 -- The ModRM is read, and then, by the form, what its function reads behind it.
 -- Assumes nothing.
 use mathlib.Core.Path.{sym, _∙_}
-use native.Mathlib.Nat.{add-zero}
 use lib.ListN.{drop}
-use Rattle.mrc_decoder.specs.Form.{modRMBehind}
-use Rattle.mrc_decoder.proofs.ModRM.{then-behind, stops-before, register-behind, pop-anywhere, segment-anywhere}
+use Rattle.mrc_rules.specs.Forms.{behind}
+use Rattle.mrc_forms.specs.Traits.{dBit}
+use Rattle.mrc_directed.specs.Common.{regFirst}
+use Rattle.mrc_decoder.specs.Form.{modRMForm}
+use Rattle.mrc_decoder.proofs.ModRM.{then-behind, stops-before, pop-anywhere, register-anywhere, segment-anywhere, count-anywhere}
 use borrow.Author.Needs.{needs}
 use Rattle.mrc_decoder.proofs.decode.with_modrm.Statement.{statement}
 use Rattle.mrc_decoder.proofs.decode.with_modrm.Tie as tie
@@ -22,7 +24,7 @@ pop-requires : tie.Need-pop-requires
 pop-requires c κs = search needs
 
 returns : tie.Need-returns
-returns c = then-behind (c .before .before .before .before .before .before .before .before .args .size) (c .before .before .before .before .before .before .before .before .args .s .now) (c .before .before .before .before .before .before .before .before .args .at) (modRMBehind (c .before .before .before .before .before .before .before .before .args .form) (c .before .before .before .before .before .before .before .before .args .size) (c .before .before .before .before .before .before .before .before .args .opcode)) (sym (c .before .before .before .before .operand .given .1) ∙ c .before .before .before .before .before .before .read-operand .ensures) (rw (c .before .enum-told .given .1) (c .pop .ensures ∙ pop-anywhere (c .before .before .before .before .operand .given .0 .0) (c .before .before .before .before .operand .given .0 .1 .1 .0) (c .before .before .before .before .operand .given .0 .1 .0) (drop (c .before .before .before .before .operand .given .0 .1 .0) (c .before .before .before .before .before .before .before .before .args .s .now))))
+returns c = then-behind (c .before .before .before .before .before .before .before .before .args .size) (c .before .before .before .before .before .before .before .before .args .s .now) (c .before .before .before .before .before .before .before .before .args .at) (behind (modRMForm (c .before .before .before .before .before .before .before .before .args .form) (c .before .before .before .before .before .before .before .before .args .opcode)) (c .before .before .before .before .before .before .before .before .args .size)) (sym (c .before .before .before .before .operand .given .1) ∙ c .before .before .before .before .before .before .read-operand .ensures) (rw (c .before .enum-told .given .1) (c .pop .ensures ∙ pop-anywhere (c .before .before .before .before .before .before .before .before .args .size) (c .before .before .before .before .operand .given .0 .0) (c .before .before .before .before .operand .given .0 .1 .1 .0) (c .before .before .before .before .operand .given .0 .1 .0) (drop (c .before .before .before .before .operand .given .0 .1 .0) (c .before .before .before .before .before .before .before .before .args .s .now))))
 
 enum-told-2 : tie.Need-enum-told-2
 enum-told-2 c = search needs
@@ -31,7 +33,7 @@ group-fe-requires : tie.Need-group-fe-requires
 group-fe-requires c κs = search needs
 
 returns-2 : tie.Need-returns-2
-returns-2 c = then-behind (c .before .before .before .before .before .before .before .before .args .size) (c .before .before .before .before .before .before .before .before .args .s .now) (c .before .before .before .before .before .before .before .before .args .at) (modRMBehind (c .before .before .before .before .before .before .before .before .args .form) (c .before .before .before .before .before .before .before .before .args .size) (c .before .before .before .before .before .before .before .before .args .opcode)) (sym (c .before .before .before .before .operand .given .1) ∙ c .before .before .before .before .before .before .read-operand .ensures) (rw (c .before .enum-told2 .given .1, add-zero) (c .group-fe .ensures))
+returns-2 c = then-behind (c .before .before .before .before .before .before .before .before .args .size) (c .before .before .before .before .before .before .before .before .args .s .now) (c .before .before .before .before .before .before .before .before .args .at) (behind (modRMForm (c .before .before .before .before .before .before .before .before .args .form) (c .before .before .before .before .before .before .before .before .args .opcode)) (c .before .before .before .before .before .before .before .before .args .size)) (sym (c .before .before .before .before .operand .given .1) ∙ c .before .before .before .before .before .before .read-operand .ensures) (rw (c .before .enum-told2 .given .1) (c .group-fe .ensures (c .before .before .before .before .before .before .before .before .args .size)))
 
 enum-told-3 : tie.Need-enum-told-3
 enum-told-3 c = search needs
@@ -40,7 +42,7 @@ group-f6-requires : tie.Need-group-f6-requires
 group-f6-requires c κs = search needs
 
 returns-3 : tie.Need-returns-3
-returns-3 c = then-behind (c .before .before .before .before .before .before .before .before .args .size) (c .before .before .before .before .before .before .before .before .args .s .now) (c .before .before .before .before .before .before .before .before .args .at) (modRMBehind (c .before .before .before .before .before .before .before .before .args .form) (c .before .before .before .before .before .before .before .before .args .size) (c .before .before .before .before .before .before .before .before .args .opcode)) (sym (c .before .before .before .before .operand .given .1) ∙ c .before .before .before .before .before .before .read-operand .ensures) (rw (c .before .enum-told3 .given .1) (c .group-f6 .ensures))
+returns-3 c = then-behind (c .before .before .before .before .before .before .before .before .args .size) (c .before .before .before .before .before .before .before .before .args .s .now) (c .before .before .before .before .before .before .before .before .args .at) (behind (modRMForm (c .before .before .before .before .before .before .before .before .args .form) (c .before .before .before .before .before .before .before .before .args .opcode)) (c .before .before .before .before .before .before .before .before .args .size)) (sym (c .before .before .before .before .operand .given .1) ∙ c .before .before .before .before .before .before .read-operand .ensures) (rw (c .before .enum-told3 .given .1) (c .group-f6 .ensures))
 
 enum-known-form : tie.Need-enum-known-form
 enum-known-form c = search needs
@@ -49,7 +51,7 @@ register-or-memory-and-register-requires : tie.Need-register-or-memory-and-regis
 register-or-memory-and-register-requires c κs = search needs
 
 returns-4 : tie.Need-returns-4
-returns-4 c = then-behind (c .before .before .before .before .before .before .before .before .before .args .size) (c .before .before .before .before .before .before .before .before .before .args .s .now) (c .before .before .before .before .before .before .before .before .before .args .at) (modRMBehind (c .before .before .before .before .before .before .before .before .before .args .form) (c .before .before .before .before .before .before .before .before .before .args .size) (c .before .before .before .before .before .before .before .before .before .args .opcode)) (sym (c .before .before .before .before .before .operand .given .1) ∙ c .before .before .before .before .before .before .before .read-operand .ensures) (rw (c .before .before .form .given .1) (c .register-or-memory-and-register .ensures ∙ register-behind (c .before .before .form .given .0 .1 .0) (c .before .before .before .before .before .before .before .before .before .args .opcode) (c .before .before .form .given .0 .0) (c .before .before .before .before .before .before .before .before .before .args .size) (c .before .before .before .before .before .operand .given .0 .0) (c .before .before .before .before .before .operand .given .0 .1 .1 .0) (c .before .before .before .before .before .operand .given .0 .1 .0) (drop (c .before .before .before .before .before .operand .given .0 .1 .0) (c .before .before .before .before .before .before .before .before .before .args .s .now))))
+returns-4 c = then-behind (c .before .before .before .before .before .before .before .before .before .args .size) (c .before .before .before .before .before .before .before .before .before .args .s .now) (c .before .before .before .before .before .before .before .before .before .args .at) (behind (modRMForm (c .before .before .before .before .before .before .before .before .before .args .form) (c .before .before .before .before .before .before .before .before .before .args .opcode)) (c .before .before .before .before .before .before .before .before .before .args .size)) (sym (c .before .before .before .before .before .operand .given .1) ∙ c .before .before .before .before .before .before .before .read-operand .ensures) (rw (c .before .before .form .given .1) (c .register-or-memory-and-register .ensures ∙ register-anywhere (c .before .before .before .before .before .before .before .before .before .args .size) (c .before .before .before .before .before .operand .given .0 .0) (c .before .before .before .before .before .operand .given .0 .1 .1 .0) (c .before .before .before .before .before .operand .given .0 .1 .0) (drop (c .before .before .before .before .before .operand .given .0 .1 .0) (c .before .before .before .before .before .before .before .before .before .args .s .now)) (regFirst (c .before .before .form .given .0 .1 .0) (c .before .before .before .before .before .before .before .before .before .args .opcode)) (c .before .before .form .given .0 .0)))
 
 enum-told-4 : tie.Need-enum-told-4
 enum-told-4 c = search needs
@@ -58,7 +60,7 @@ register-or-memory-and-segment-requires : tie.Need-register-or-memory-and-segmen
 register-or-memory-and-segment-requires c κs = search needs
 
 returns-5 : tie.Need-returns-5
-returns-5 c = then-behind (c .before .before .before .before .before .before .before .before .args .size) (c .before .before .before .before .before .before .before .before .args .s .now) (c .before .before .before .before .before .before .before .before .args .at) (modRMBehind (c .before .before .before .before .before .before .before .before .args .form) (c .before .before .before .before .before .before .before .before .args .size) (c .before .before .before .before .before .before .before .before .args .opcode)) (sym (c .before .before .before .before .operand .given .1) ∙ c .before .before .before .before .before .before .read-operand .ensures) (rw (c .before .enum-told4 .given .1) (c .register-or-memory-and-segment .ensures ∙ segment-anywhere (c .before .before .before .before .before .before .before .before .args .opcode) (c .before .before .before .before .operand .given .0 .0) (c .before .before .before .before .operand .given .0 .1 .1 .0) (c .before .before .before .before .operand .given .0 .1 .0) (drop (c .before .before .before .before .operand .given .0 .1 .0) (c .before .before .before .before .before .before .before .before .args .s .now))))
+returns-5 c = then-behind (c .before .before .before .before .before .before .before .before .args .size) (c .before .before .before .before .before .before .before .before .args .s .now) (c .before .before .before .before .before .before .before .before .args .at) (behind (modRMForm (c .before .before .before .before .before .before .before .before .args .form) (c .before .before .before .before .before .before .before .before .args .opcode)) (c .before .before .before .before .before .before .before .before .args .size)) (sym (c .before .before .before .before .operand .given .1) ∙ c .before .before .before .before .before .before .read-operand .ensures) (rw (c .before .enum-told4 .given .1) (c .register-or-memory-and-segment .ensures ∙ segment-anywhere (c .before .before .before .before .before .before .before .before .args .size) (c .before .before .before .before .operand .given .0 .0) (c .before .before .before .before .operand .given .0 .1 .1 .0) (c .before .before .before .before .operand .given .0 .1 .0) (drop (c .before .before .before .before .operand .given .0 .1 .0) (c .before .before .before .before .before .before .before .before .args .s .now)) (dBit (c .before .before .before .before .before .before .before .before .args .opcode))))
 
 enum-known-form-2 : tie.Need-enum-known-form-2
 enum-known-form-2 c = search needs
@@ -67,7 +69,7 @@ immediate-to-register-or-memory-requires : tie.Need-immediate-to-register-or-mem
 immediate-to-register-or-memory-requires c κs = search needs
 
 returns-6 : tie.Need-returns-6
-returns-6 c = then-behind (c .before .before .before .before .before .before .before .before .before .args .size) (c .before .before .before .before .before .before .before .before .before .args .s .now) (c .before .before .before .before .before .before .before .before .before .args .at) (modRMBehind (c .before .before .before .before .before .before .before .before .before .args .form) (c .before .before .before .before .before .before .before .before .before .args .size) (c .before .before .before .before .before .before .before .before .before .args .opcode)) (sym (c .before .before .before .before .before .operand .given .1) ∙ c .before .before .before .before .before .before .before .read-operand .ensures) (rw (c .before .before .form2 .given .1) (c .immediate-to-register-or-memory .ensures))
+returns-6 c = then-behind (c .before .before .before .before .before .before .before .before .before .args .size) (c .before .before .before .before .before .before .before .before .before .args .s .now) (c .before .before .before .before .before .before .before .before .before .args .at) (behind (modRMForm (c .before .before .before .before .before .before .before .before .before .args .form) (c .before .before .before .before .before .before .before .before .before .args .opcode)) (c .before .before .before .before .before .before .before .before .before .args .size)) (sym (c .before .before .before .before .before .operand .given .1) ∙ c .before .before .before .before .before .before .before .read-operand .ensures) (rw (c .before .before .form2 .given .1) (c .immediate-to-register-or-memory .ensures))
 
 enum-told-5 : tie.Need-enum-told-5
 enum-told-5 c = search needs
@@ -76,7 +78,7 @@ group-83-requires : tie.Need-group-83-requires
 group-83-requires c κs = search needs
 
 returns-7 : tie.Need-returns-7
-returns-7 c = then-behind (c .before .before .before .before .before .before .before .before .args .size) (c .before .before .before .before .before .before .before .before .args .s .now) (c .before .before .before .before .before .before .before .before .args .at) (modRMBehind (c .before .before .before .before .before .before .before .before .args .form) (c .before .before .before .before .before .before .before .before .args .size) (c .before .before .before .before .before .before .before .before .args .opcode)) (sym (c .before .before .before .before .operand .given .1) ∙ c .before .before .before .before .before .before .read-operand .ensures) (rw (c .before .enum-told5 .given .1) (c .group-83 .ensures))
+returns-7 c = then-behind (c .before .before .before .before .before .before .before .before .args .size) (c .before .before .before .before .before .before .before .before .args .s .now) (c .before .before .before .before .before .before .before .before .args .at) (behind (modRMForm (c .before .before .before .before .before .before .before .before .args .form) (c .before .before .before .before .before .before .before .before .args .opcode)) (c .before .before .before .before .before .before .before .before .args .size)) (sym (c .before .before .before .before .operand .given .1) ∙ c .before .before .before .before .before .before .read-operand .ensures) (rw (c .before .enum-told5 .given .1) (c .group-83 .ensures))
 
 enum-told-6 : tie.Need-enum-told-6
 enum-told-6 c = search needs
@@ -85,7 +87,7 @@ shift-by-immediate-requires : tie.Need-shift-by-immediate-requires
 shift-by-immediate-requires c κs = search needs
 
 returns-8 : tie.Need-returns-8
-returns-8 c = then-behind (c .before .before .before .before .before .before .before .before .args .size) (c .before .before .before .before .before .before .before .before .args .s .now) (c .before .before .before .before .before .before .before .before .args .at) (modRMBehind (c .before .before .before .before .before .before .before .before .args .form) (c .before .before .before .before .before .before .before .before .args .size) (c .before .before .before .before .before .before .before .before .args .opcode)) (sym (c .before .before .before .before .operand .given .1) ∙ c .before .before .before .before .before .before .read-operand .ensures) (rw (c .before .enum-told6 .given .1) (c .shift-by-immediate .ensures))
+returns-8 c = then-behind (c .before .before .before .before .before .before .before .before .args .size) (c .before .before .before .before .before .before .before .before .args .s .now) (c .before .before .before .before .before .before .before .before .args .at) (behind (modRMForm (c .before .before .before .before .before .before .before .before .args .form) (c .before .before .before .before .before .before .before .before .args .opcode)) (c .before .before .before .before .before .before .before .before .args .size)) (sym (c .before .before .before .before .operand .given .1) ∙ c .before .before .before .before .before .before .read-operand .ensures) (rw (c .before .enum-told6 .given .1) (c .shift-by-immediate .ensures (c .before .before .before .before .before .before .before .before .args .size)))
 
 enum-told-7 : tie.Need-enum-told-7
 enum-told-7 c = search needs
@@ -94,13 +96,13 @@ shift-by-count-requires : tie.Need-shift-by-count-requires
 shift-by-count-requires c κs = search needs
 
 returns-9 : tie.Need-returns-9
-returns-9 c = then-behind (c .before .before .before .before .before .before .before .before .args .size) (c .before .before .before .before .before .before .before .before .args .s .now) (c .before .before .before .before .before .before .before .before .args .at) (modRMBehind (c .before .before .before .before .before .before .before .before .args .form) (c .before .before .before .before .before .before .before .before .args .size) (c .before .before .before .before .before .before .before .before .args .opcode)) (sym (c .before .before .before .before .operand .given .1) ∙ c .before .before .before .before .before .before .read-operand .ensures) (rw (c .before .enum-told7 .given .1, add-zero) (c .shift-by-count .ensures))
+returns-9 c = then-behind (c .before .before .before .before .before .before .before .before .args .size) (c .before .before .before .before .before .before .before .before .args .s .now) (c .before .before .before .before .before .before .before .before .args .at) (behind (modRMForm (c .before .before .before .before .before .before .before .before .args .form) (c .before .before .before .before .before .before .before .before .args .opcode)) (c .before .before .before .before .before .before .before .before .args .size)) (sym (c .before .before .before .before .operand .given .1) ∙ c .before .before .before .before .before .before .read-operand .ensures) (rw (c .before .enum-told7 .given .1) (c .shift-by-count .ensures ∙ count-anywhere (c .before .before .before .before .before .before .before .before .args .size) (c .before .before .before .before .operand .given .0 .0) (c .before .before .before .before .operand .given .0 .1 .1 .0) (c .before .before .before .before .operand .given .0 .1 .0) (drop (c .before .before .before .before .operand .given .0 .1 .0) (c .before .before .before .before .before .before .before .before .args .s .now)) (dBit (c .before .before .before .before .before .before .before .before .args .opcode))))
 
 enum-known-e : tie.Need-enum-known-e
 enum-known-e c = search needs
 
 returns-10 : tie.Need-returns-10
-returns-10 c = stops-before (c .before .before .before .before .before .args .size) (c .before .before .before .before .before .args .s .now) (c .before .before .before .before .before .args .at) (modRMBehind (c .before .before .before .before .before .args .form) (c .before .before .before .before .before .args .size) (c .before .before .before .before .before .args .opcode)) (sym (c .before .e .given .1) ∙ c .before .before .before .read-operand .ensures)
+returns-10 c = stops-before (c .before .before .before .before .before .args .size) (c .before .before .before .before .before .args .s .now) (c .before .before .before .before .before .args .at) (behind (modRMForm (c .before .before .before .before .before .args .form) (c .before .before .before .before .before .args .opcode)) (c .before .before .before .before .before .args .size)) (sym (c .before .e .given .1) ∙ c .before .before .before .read-operand .ensures)
 
 pub with-modrm-spec : {M : Type 1} → statement M
 with-modrm-spec =

@@ -1,17 +1,17 @@
--- One reader, and then done.
+-- One reader, and then done. The sums fit, since what a reader took is there.
 -- Assumes nothing.
-use mathlib.Core.Path.{refl, sym, _∙_}
+use mathlib.Core.Path.{refl, sym, ap, _∙_}
 use native.Mathlib.Omega.{arith}
 use Rattle.mrc_rules.specs.Forms.{anImmediate}
 use Rattle.mrc_instruction.proofs.Sequence.{took, done-at, stop-at}
+use Rattle.mrc_forms.specs.Answers.{formRead}
 use Rattle.mrc_forms.proofs.Outcomes.{immediate-is}
-use Rattle.mrc_forms.proofs.BehindOpcode.{got-behind, stop-behind}
 use borrow.Author.Needs.{needs}
 use Rattle.mrc_directed.proofs.common.immediate_to_accumulator.Statement.{statement}
 use Rattle.mrc_directed.proofs.common.immediate_to_accumulator.Tie as tie
 
-operand-size-requires : tie.Need-operand-size-requires
-operand-size-requires c κs = search needs
+from-low-bit-requires : tie.Need-from-low-bit-requires
+from-low-bit-requires c κs = search needs
 
 read-immediate-requires : tie.Need-read-immediate-requires
 read-immediate-requires c κs = search needs
@@ -19,38 +19,34 @@ read-immediate-requires c κs = search needs
 enum-known-immediate : tie.Need-enum-known-immediate
 enum-known-immediate c = search needs
 
-add-decoded : tie.Need-add-decoded
-add-decoded c = omega (arith, took (anImmediate (c .before .before .before .before .operand-size .result)) (c .before .before .before .before .before .before .args .s .now) (c .before .before .before .before .before .before .args .at) (immediate-is (sym (c .before .immediate .given .1) ∙ c .before .before .before .read-immediate .ensures)))
+new-requires : tie.Need-new-requires
+new-requires c κs = search needs
 
-decoded-requires : tie.Need-decoded-requires
-decoded-requires c κs = search needs
+add-t17 : tie.Need-add-t17
+add-t17 c = omega (arith, took (anImmediate (c .before .before .before .before .before .from-low-bit .result)) (c .before .before .before .before .before .before .before .args .s .now) (c .before .before .before .before .before .before .before .args .at) (immediate-is (sym (c .before .before .immediate .given .1) ∙ c .before .before .before .before .read-immediate .ensures)))
 
 returns : tie.Need-returns
-returns c = rw (c .decoded .ensures, ← c .before .before .before .before .before .operand-size .ensures) (got-behind (done-at (anImmediate (c .before .before .before .before .before .operand-size .result)) _ (c .before .before .before .before .before .before .before .args .s .now) (c .before .before .before .before .before .before .before .args .at) (immediate-is (sym (c .before .before .immediate .given .1) ∙ c .before .before .before .before .read-immediate .ensures)) refl))
+returns c = rw (c .new .ensures, ← c .before .before .before .before .before .from-low-bit .ensures) (ap (formRead (c .before .before .before .before .before .before .before .args .at)) (done-at (anImmediate (c .before .before .before .before .before .from-low-bit .result)) _ (c .before .before .before .before .before .before .before .args .s .now) (c .before .before .before .before .before .before .before .args .at) (immediate-is (sym (c .before .before .immediate .given .1) ∙ c .before .before .before .before .read-immediate .ensures)) refl))
 
 enum-known-e : tie.Need-enum-known-e
 enum-known-e c = search needs
 
-add-refused : tie.Need-add-refused
-add-refused c = omega (arith, took (anImmediate (c .before .before .before .before .operand-size .result)) (c .before .before .before .before .before .before .args .s .now) (c .before .before .before .before .before .before .args .at) (immediate-is (sym (c .before .e .given .1) ∙ c .before .before .before .read-immediate .ensures)))
-
-refused-requires : tie.Need-refused-requires
-refused-requires c κs = search needs
+add-t18 : tie.Need-add-t18
+add-t18 c = omega (arith, took (anImmediate (c .before .before .before .before .from-low-bit .result)) (c .before .before .before .before .before .before .args .s .now) (c .before .before .before .before .before .before .args .at) (immediate-is (sym (c .before .e .given .1) ∙ c .before .before .before .read-immediate .ensures)))
 
 returns-2 : tie.Need-returns-2
-returns-2 c = rw (c .refused .ensures, ← c .before .before .before .before .before .operand-size .ensures) (stop-behind (stop-at (anImmediate (c .before .before .before .before .before .operand-size .result)) _ (c .before .before .before .before .before .before .before .args .s .now) (c .before .before .before .before .before .before .before .args .at) (immediate-is (sym (c .before .before .e .given .1) ∙ c .before .before .before .before .read-immediate .ensures))))
+returns-2 c = rw (← c .before .before .before .before .from-low-bit .ensures) (ap (formRead (c .before .before .before .before .before .before .args .at)) (stop-at (anImmediate (c .before .before .before .before .from-low-bit .result)) _ (c .before .before .before .before .before .before .args .s .now) (c .before .before .before .before .before .before .args .at) (immediate-is (sym (c .before .e .given .1) ∙ c .before .before .before .read-immediate .ensures))))
 
 pub immediate-to-accumulator-spec : {M : Type 1} → statement M
 immediate-to-accumulator-spec =
     tie.close
     (tie.spec
-    operand-size-requires
+    from-low-bit-requires
     read-immediate-requires
     enum-known-immediate
-    add-decoded
-    decoded-requires
+    new-requires
+    add-t17
     returns
     enum-known-e
-    add-refused
-    refused-requires
+    add-t18
     returns-2)

@@ -2,10 +2,12 @@
 -- Assumes nothing.
 use mathlib.Core.Path.{refl, sym, ap, _∙_}
 use native.Mathlib.Omega.{arith}
+use lib.Dec.{eqb}
 use Rattle.mrc_rules.specs.Forms.{anImmediate}
 use Rattle.mrc_instruction.proofs.Sequence.{took, done-at, stop-at}
 use Rattle.mrc_forms.specs.Answers.{formRead}
 use Rattle.mrc_forms.proofs.Outcomes.{immediate-is}
+use Rattle.mrc_directed.proofs.Either.{immediate-either}
 use borrow.Author.Needs.{needs}
 use Rattle.mrc_directed.proofs.common.immediate_to_register_or_memory.Statement.{statement}
 use Rattle.mrc_directed.proofs.common.immediate_to_register_or_memory.Tie as tie
@@ -16,26 +18,29 @@ read-immediate-requires c κs = search needs
 enum-known-immediate : tie.Need-enum-known-immediate
 enum-known-immediate c = search needs
 
+reg-field-requires : tie.Need-reg-field-requires
+reg-field-requires c κs = search needs
+
 immediate-operation-requires : tie.Need-immediate-operation-requires
 immediate-operation-requires c κs = search needs
 
 new-requires : tie.Need-new-requires
 new-requires c κs = search needs
 
-add-t18 : tie.Need-add-t18
-add-t18 c = omega (arith, took (anImmediate (c .before .before .before .before .before .before .before .args .size)) (c .before .before .before .before .before .before .before .args .s .now) (c .before .before .before .before .before .before .before .args .at) (immediate-is (sym (c .before .before .before .immediate .given .1) ∙ c .before .before .before .before .before .read-immediate .ensures)))
+add-t17 : tie.Need-add-t17
+add-t17 c = omega (arith, took (anImmediate (c .before .before .before .before .before .before .before .before .args .size)) (c .before .before .before .before .before .before .before .before .args .s .now) (c .before .before .before .before .before .before .before .before .args .at) (immediate-is (sym (c .before .before .before .before .immediate .given .1) ∙ c .before .before .before .before .before .before .read-immediate .ensures)))
 
 returns : tie.Need-returns
-returns c = rw (c .new .ensures, c .before .immediate-operation .ensures) (ap (formRead (c .before .before .before .before .before .before .before .args .at)) (done-at (anImmediate (c .before .before .before .before .before .before .before .args .size)) _ (c .before .before .before .before .before .before .before .args .s .now) (c .before .before .before .before .before .before .before .args .at) (immediate-is (sym (c .before .before .before .immediate .given .1) ∙ c .before .before .before .before .before .read-immediate .ensures)) refl))
+returns c = rw (c .new .ensures, c .before .immediate-operation .ensures, c .before .before .reg-field .ensures, immediate-either (eqb (c .before .before .before .before .before .before .before .before .args .group) 0x80) (c .before .before .before .before .before .before .before .before .args .size) (c .before .before .before .before .before .before .before .before .args .destination) (c .before .before .before .before .before .before .before .before .args .byte)) (ap (formRead (c .before .before .before .before .before .before .before .before .args .at)) (done-at (anImmediate (c .before .before .before .before .before .before .before .before .args .size)) _ (c .before .before .before .before .before .before .before .before .args .s .now) (c .before .before .before .before .before .before .before .before .args .at) (immediate-is (sym (c .before .before .before .before .immediate .given .1) ∙ c .before .before .before .before .before .before .read-immediate .ensures)) refl))
 
 enum-known-e : tie.Need-enum-known-e
 enum-known-e c = search needs
 
-add-t19 : tie.Need-add-t19
-add-t19 c = omega (arith, took (anImmediate (c .before .before .before .before .before .args .size)) (c .before .before .before .before .before .args .s .now) (c .before .before .before .before .before .args .at) (immediate-is (sym (c .before .e .given .1) ∙ c .before .before .before .read-immediate .ensures)))
+add-t18 : tie.Need-add-t18
+add-t18 c = omega (arith, took (anImmediate (c .before .before .before .before .before .args .size)) (c .before .before .before .before .before .args .s .now) (c .before .before .before .before .before .args .at) (immediate-is (sym (c .before .e .given .1) ∙ c .before .before .before .read-immediate .ensures)))
 
 returns-2 : tie.Need-returns-2
-returns-2 c = ap (formRead (c .before .before .before .before .before .args .at)) (stop-at (anImmediate (c .before .before .before .before .before .args .size)) _ (c .before .before .before .before .before .args .s .now) (c .before .before .before .before .before .args .at) (immediate-is (sym (c .before .e .given .1) ∙ c .before .before .before .read-immediate .ensures)))
+returns-2 c = rw (immediate-either (eqb (c .before .before .before .before .before .args .group) 0x80) (c .before .before .before .before .before .args .size) (c .before .before .before .before .before .args .destination) (c .before .before .before .before .before .args .byte)) (ap (formRead (c .before .before .before .before .before .args .at)) (stop-at (anImmediate (c .before .before .before .before .before .args .size)) _ (c .before .before .before .before .before .args .s .now) (c .before .before .before .before .before .args .at) (immediate-is (sym (c .before .e .given .1) ∙ c .before .before .before .read-immediate .ensures))))
 
 pub immediate-to-register-or-memory-spec : {M : Type 1} → statement M
 immediate-to-register-or-memory-spec =
@@ -43,10 +48,11 @@ immediate-to-register-or-memory-spec =
     (tie.spec
     read-immediate-requires
     enum-known-immediate
+    reg-field-requires
     immediate-operation-requires
     new-requires
-    add-t18
+    add-t17
     returns
     enum-known-e
-    add-t19
+    add-t18
     returns-2)

@@ -1,6 +1,7 @@
 -- Nothing more is read; the operands stand as the direction says.
 -- Assumes nothing.
 use mathlib.Core.Path.{sym, _∙_}
+use native.Mathlib.Nat.{add-zero}
 use borrow.Author.Needs.{needs}
 use Rattle.mrc_directed.proofs.common.register_or_memory_and_register.Statement.{statement}
 use Rattle.mrc_directed.proofs.common.register_or_memory_and_register.Tie as tie
@@ -15,13 +16,13 @@ new-requires : tie.Need-new-requires
 new-requires c κs = search needs
 
 returns : tie.Need-returns
-returns c = rw (c .new .ensures, c .before .before .before .from-low-bits .ensures, sym (c .before .before .reg-first .ensures) ∙ c .before .if1 .taken)
+returns c = rw (c .new .ensures, c .before .before .before .from-low-bits .ensures, sym (c .before .before .reg-first .ensures) ∙ c .before .if1 .taken, add-zero)
 
 new-requires-2 : tie.Need-new-requires-2
 new-requires-2 c κs = search needs
 
 returns-2 : tie.Need-returns-2
-returns-2 c = rw (c .new2 .ensures, c .before .before .before .from-low-bits .ensures, sym (c .before .before .reg-first .ensures) ∙ c .before .if1 .left)
+returns-2 c = rw (c .new2 .ensures, c .before .before .before .from-low-bits .ensures, sym (c .before .before .reg-first .ensures) ∙ c .before .if1 .left, add-zero)
 
 pub register-or-memory-and-register-spec : {M : Type 1} → statement M
 register-or-memory-and-register-spec =

@@ -1,11 +1,11 @@
--- One reader, and then done.
+-- One reader, and then done. The sums fit, since what a reader took is there.
 -- Assumes nothing.
-use mathlib.Core.Path.{refl, sym, _∙_}
+use mathlib.Core.Path.{refl, sym, ap, _∙_}
 use native.Mathlib.Omega.{arith}
 use Rattle.mrc_instruction.specs.Reader.{aByte}
 use Rattle.mrc_instruction.proofs.Sequence.{took, done-at, stop-at}
 use Rattle.mrc_instruction.proofs.Outcomes.{byte-is}
-use Rattle.mrc_forms.proofs.BehindOpcode.{got-behind, stop-behind}
+use Rattle.mrc_forms.specs.Answers.{formRead}
 use borrow.Author.Needs.{needs}
 use Rattle.mrc_forms.proofs.forms.escape.Statement.{statement}
 use Rattle.mrc_forms.proofs.forms.escape.Tie as tie
@@ -16,26 +16,23 @@ read-u8-requires c κs = search needs
 enum-known-n : tie.Need-enum-known-n
 enum-known-n c = search needs
 
-add-decoded : tie.Need-add-decoded
-add-decoded c = omega (arith, took aByte (c .before .before .before .before .before .args .s .now) (c .before .before .before .before .before .args .at) (byte-is (sym (c .before .n .given .1) ∙ c .before .before .before .read-u8 .ensures)))
+new-requires : tie.Need-new-requires
+new-requires c κs = search needs
 
-decoded-requires : tie.Need-decoded-requires
-decoded-requires c κs = search needs
+add-t10 : tie.Need-add-t10
+add-t10 c = omega (arith, took aByte (c .before .before .before .before .before .before .args .s .now) (c .before .before .before .before .before .before .args .at) (byte-is (sym (c .before .before .n .given .1) ∙ c .before .before .before .before .read-u8 .ensures)))
 
 returns : tie.Need-returns
-returns c = c .decoded .ensures ∙ got-behind (done-at aByte _ (c .before .before .before .before .before .before .args .s .now) (c .before .before .before .before .before .before .args .at) (byte-is (sym (c .before .before .n .given .1) ∙ c .before .before .before .before .read-u8 .ensures)) refl)
+returns c = rw (c .new .ensures) (ap (formRead (c .before .before .before .before .before .before .args .at)) (done-at aByte _ (c .before .before .before .before .before .before .args .s .now) (c .before .before .before .before .before .before .args .at) (byte-is (sym (c .before .before .n .given .1) ∙ c .before .before .before .before .read-u8 .ensures)) refl))
 
 enum-known-e : tie.Need-enum-known-e
 enum-known-e c = search needs
 
-add-refused : tie.Need-add-refused
-add-refused c = omega (arith, took aByte (c .before .before .before .before .before .args .s .now) (c .before .before .before .before .before .args .at) (byte-is (sym (c .before .e .given .1) ∙ c .before .before .before .read-u8 .ensures)))
-
-refused-requires : tie.Need-refused-requires
-refused-requires c κs = search needs
+add-t11 : tie.Need-add-t11
+add-t11 c = omega (arith, took aByte (c .before .before .before .before .before .args .s .now) (c .before .before .before .before .before .args .at) (byte-is (sym (c .before .e .given .1) ∙ c .before .before .before .read-u8 .ensures)))
 
 returns-2 : tie.Need-returns-2
-returns-2 c = c .refused .ensures ∙ stop-behind (stop-at aByte _ (c .before .before .before .before .before .before .args .s .now) (c .before .before .before .before .before .before .args .at) (byte-is (sym (c .before .before .e .given .1) ∙ c .before .before .before .before .read-u8 .ensures)))
+returns-2 c = ap (formRead (c .before .before .before .before .before .args .at)) (stop-at aByte _ (c .before .before .before .before .before .args .s .now) (c .before .before .before .before .before .args .at) (byte-is (sym (c .before .e .given .1) ∙ c .before .before .before .read-u8 .ensures)))
 
 pub escape-spec : {M : Type 1} → statement M
 escape-spec =
@@ -43,10 +40,9 @@ escape-spec =
     (tie.spec
     read-u8-requires
     enum-known-n
-    add-decoded
-    decoded-requires
+    new-requires
+    add-t10
     returns
     enum-known-e
-    add-refused
-    refused-requires
+    add-t11
     returns-2)

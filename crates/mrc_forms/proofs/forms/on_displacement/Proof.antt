@@ -1,11 +1,11 @@
--- One reader, and then done.
+-- One reader, and then done. The sums fit, since what a reader took is there.
 -- Assumes nothing.
-use mathlib.Core.Path.{refl, sym, _∙_}
+use mathlib.Core.Path.{refl, sym, ap, _∙_}
 use native.Mathlib.Omega.{arith}
 use Rattle.mrc_rules.specs.Forms.{aDisplacement}
 use Rattle.mrc_instruction.proofs.Sequence.{took, done-at, stop-at}
+use Rattle.mrc_forms.specs.Answers.{formRead}
 use Rattle.mrc_forms.proofs.Outcomes.{displacement-is}
-use Rattle.mrc_forms.proofs.BehindOpcode.{got-behind, stop-behind}
 use borrow.Author.Needs.{needs}
 use Rattle.mrc_forms.proofs.forms.on_displacement.Statement.{statement}
 use Rattle.mrc_forms.proofs.forms.on_displacement.Tie as tie
@@ -16,26 +16,23 @@ read-displacement-requires c κs = search needs
 enum-known-displacement : tie.Need-enum-known-displacement
 enum-known-displacement c = search needs
 
-add-decoded : tie.Need-add-decoded
-add-decoded c = omega (arith, took (aDisplacement (c .before .before .before .before .before .args .size)) (c .before .before .before .before .before .args .s .now) (c .before .before .before .before .before .args .at) (displacement-is (sym (c .before .displacement .given .1) ∙ c .before .before .before .read-displacement .ensures)))
+new-requires : tie.Need-new-requires
+new-requires c κs = search needs
 
-decoded-requires : tie.Need-decoded-requires
-decoded-requires c κs = search needs
+add-t13 : tie.Need-add-t13
+add-t13 c = omega (arith, took (aDisplacement (c .before .before .before .before .before .before .args .size)) (c .before .before .before .before .before .before .args .s .now) (c .before .before .before .before .before .before .args .at) (displacement-is (sym (c .before .before .displacement .given .1) ∙ c .before .before .before .before .read-displacement .ensures)))
 
 returns : tie.Need-returns
-returns c = c .decoded .ensures ∙ got-behind (done-at (aDisplacement (c .before .before .before .before .before .before .args .size)) _ (c .before .before .before .before .before .before .args .s .now) (c .before .before .before .before .before .before .args .at) (displacement-is (sym (c .before .before .displacement .given .1) ∙ c .before .before .before .before .read-displacement .ensures)) refl)
+returns c = rw (c .new .ensures) (ap (formRead (c .before .before .before .before .before .before .args .at)) (done-at (aDisplacement (c .before .before .before .before .before .before .args .size)) _ (c .before .before .before .before .before .before .args .s .now) (c .before .before .before .before .before .before .args .at) (displacement-is (sym (c .before .before .displacement .given .1) ∙ c .before .before .before .before .read-displacement .ensures)) refl))
 
 enum-known-e : tie.Need-enum-known-e
 enum-known-e c = search needs
 
-add-refused : tie.Need-add-refused
-add-refused c = omega (arith, took (aDisplacement (c .before .before .before .before .before .args .size)) (c .before .before .before .before .before .args .s .now) (c .before .before .before .before .before .args .at) (displacement-is (sym (c .before .e .given .1) ∙ c .before .before .before .read-displacement .ensures)))
-
-refused-requires : tie.Need-refused-requires
-refused-requires c κs = search needs
+add-t14 : tie.Need-add-t14
+add-t14 c = omega (arith, took (aDisplacement (c .before .before .before .before .before .args .size)) (c .before .before .before .before .before .args .s .now) (c .before .before .before .before .before .args .at) (displacement-is (sym (c .before .e .given .1) ∙ c .before .before .before .read-displacement .ensures)))
 
 returns-2 : tie.Need-returns-2
-returns-2 c = c .refused .ensures ∙ stop-behind (stop-at (aDisplacement (c .before .before .before .before .before .before .args .size)) _ (c .before .before .before .before .before .before .args .s .now) (c .before .before .before .before .before .before .args .at) (displacement-is (sym (c .before .before .e .given .1) ∙ c .before .before .before .before .read-displacement .ensures)))
+returns-2 c = ap (formRead (c .before .before .before .before .before .args .at)) (stop-at (aDisplacement (c .before .before .before .before .before .args .size)) _ (c .before .before .before .before .before .args .s .now) (c .before .before .before .before .before .args .at) (displacement-is (sym (c .before .e .given .1) ∙ c .before .before .before .read-displacement .ensures)))
 
 pub on-displacement-spec : {M : Type 1} → statement M
 on-displacement-spec =
@@ -43,10 +40,9 @@ on-displacement-spec =
     (tie.spec
     read-displacement-requires
     enum-known-displacement
-    add-decoded
-    decoded-requires
+    new-requires
+    add-t13
     returns
     enum-known-e
-    add-refused
-    refused-requires
+    add-t14
     returns-2)

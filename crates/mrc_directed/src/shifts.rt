@@ -1,0 +1,57 @@
+// Shifts of the operand that a ModRM names, by its byte and the position behind it.
+use mrc_forms::answers::FormRead;
+use mrc_forms::groups::group2_operation;
+use mrc_forms::traits::ImmediateRead;
+use mrc_forms::traits::d_bit;
+use mrc_forms::traits::read_immediate;
+use mrc_instruction::instruction::Instruction;
+use mrc_instruction::instruction::OperandSet;
+use mrc_instruction::mrrm::reg_field;
+use mrc_instruction::operand::Immediate;
+use mrc_instruction::operand::Operand;
+use mrc_instruction::operand::OperandSize;
+use mrc_instruction::register::RegisterEncoding;
+use mrc_instruction::register::SizedRegisterEncoding;
+ghost use mathlib.Core.Path.{_≡_};
+ghost use mathlib.Core.List.{[]};
+ghost use lib.ListN.{drop};
+ghost use Rattle.mrc_instruction.specs.declared.operand.OperandSize.{OperandSize};
+ghost use Rattle.mrc_rules.specs.Forms.{shiftByImmediate};
+ghost use Rattle.mrc_forms.specs.Answers.{readBehind};
+ghost use Rattle.mrc_directed.specs.Shifts.{shiftByCount};
+
+// C0 and C1: a shift by an immediate byte, whatever the size of the operand.
+pub fn shift_by_immediate(destination: Operand, byte: u8, s: &[u8], at: usize) -> FormRead
+    ensures { λ r. ⌜ ((size : OperandSize) → r ≡ readBehind shiftByImmediate size destination byte at (drop at (now (s .entry)))) ⌝ }
+{
+    match read_immediate(OperandSize::Byte, s, at) {
+        ImmediateRead::Got(immediate, n) => {
+            let count = Operand::Immediate(immediate);
+            let operation = group2_operation(reg_field(byte));
+            let operands = OperandSet::DestinationAndSource(destination, count);
+            return FormRead::Got(Instruction::new(operation, operands), at + n);
+        }
+        ImmediateRead::Refused(e, n) => return FormRead::Refused(e, at + n),
+    }
+}
+
+// D0 to D3: a shift by 1, or by ClCx of the same size where bit 1 is set.
+pub fn shift_by_count(
+    opcode: u8,
+    size: OperandSize,
+    destination: Operand,
+    byte: u8,
+    at: usize,
+) -> FormRead
+    ensures { λ r. ⌜ r ≡ readBehind (shiftByCount opcode) size destination byte at [] ⌝ }
+{
+    let operation = group2_operation(reg_field(byte));
+    if d_bit(opcode) {
+        let cl = Operand::Register(SizedRegisterEncoding(RegisterEncoding::ClCx, size));
+        let operands = OperandSet::DestinationAndSource(destination, cl);
+        return FormRead::Got(Instruction::new(operation, operands), at);
+    }
+    let once = Operand::Immediate(Immediate::Byte(1));
+    let operands = OperandSet::DestinationAndSource(destination, once);
+    return FormRead::Got(Instruction::new(operation, operands), at);
+}

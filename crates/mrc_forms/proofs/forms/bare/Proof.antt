@@ -1,0 +1,15 @@
+-- Nothing is read.
+-- Assumes nothing.
+use native.Mathlib.Nat.{add-zero}
+use borrow.Author.Needs.{needs}
+use Rattle.mrc_forms.proofs.forms.bare.Statement.{statement}
+use Rattle.mrc_forms.proofs.forms.bare.Tie as tie
+
+new-requires : tie.Need-new-requires
+new-requires c κs = search needs
+
+returns : tie.Need-returns
+returns c = rw (c .new .ensures, add-zero)
+
+pub bare-spec : {M : Type 1} → statement M
+bare-spec = tie.close (tie.spec new-requires returns)
