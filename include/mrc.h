@@ -1,7 +1,7 @@
 /* The proved 8086 decoder and lister, from C on x86-64. Link libmrc_c.a, which `rt staticlib mrc_c` writes.
  *
- * Every call answers for every input: no position, budget, field or length is forbidden. The caller owns each buffer, lends
- * it for the call alone, and the buffer that is written to overlaps no other. A pointer whose length is 0 is not followed.
+ * Every call answers for every input: no position, budget, field or length is forbidden. The caller owns each buffer and record,
+ * lends it for the call alone, and what is written to overlaps nothing else that is lent. A pointer whose length is 0 is not followed.
  * Nothing is allocated and nothing is kept between calls, so calls may run at the same time. */
 #ifndef MRC_H
 #define MRC_H
@@ -14,8 +14,6 @@ extern "C" {
 #endif
 
 enum {
-    MRC_DECODE_RECORD = 20,   /* bytes that mrc_decode writes */
-    MRC_MRRM_RECORD = 10,     /* bytes that mrc_mrrm writes */
     MRC_LONGEST_LINE = 85,    /* no line is longer, the LF included: proved */
     MRC_LONGEST_IMAGE = 65536 /* the most bytes that mrc_line and mrc_page list */
 };
@@ -44,60 +42,56 @@ enum mrc_refusal {
     MRC_IMAGE_TOO_LONG = 13                   /* the image is longer than MRC_LONGEST_IMAGE */
 };
 
-/* Decodes the instruction at a position, with at most `budget` prefixes.
- *
- * Writes MRC_DECODE_RECORD bytes to the front of `out`, none behind them, and answers their number; where `room` is less,
- * writes nothing and answers 0. The record:
- *
- *     0         enum mrc_refusal
- *     1         the byte that the refusal carries
- *     2, 3      bytes taken from the position on, low byte first
- *     4, 5      prefixes among them, low byte first
- *     6         enum mrc_operation
- *     7         0 no repeat, 1 repeat while equal (F3), 2 repeat while not equal (F2)
- *     8 to 13   the destination
- *     14 to 19  the source
- *
- * Bytes 6 to 19 of a refusal are 0. An operand's six bytes:
- *
- *     0         enum mrc_kind
- *     1         enum mrc_segment_code, or enum mrc_register_code; of a far address its segment, low byte
- *     2         enum mrc_addressing_code; of a far address its segment, high byte
- *     3         enum mrc_size, of memory and registers
- *     4, 5      offset, displacement or immediate, low byte first; a byte's second is 0
- *
- * What a kind has no use for is 0. A byte displacement of 128 or more stands for itself less 256, a word displacement of
- * 32,768 or more for itself less 65,536. */
-size_t mrc_decode(const uint8_t *bytes, size_t length, size_t position, uint8_t budget, uint8_t *out, size_t room);
+/* A struct of machine words, which the calls write whole. */
+#define MRC_WORDS __attribute__((aligned(8)))
 
-/* Places in the record of mrc_decode. */
-enum {
-    MRC_AT_REFUSAL = 0,
-    MRC_AT_BYTE = 1,
-    MRC_AT_TAKEN = 2,
-    MRC_AT_PREFIXES = 4,
-    MRC_AT_OPERATION = 6,
-    MRC_AT_REPEAT = 7,
-    MRC_AT_DESTINATION = 8,
-    MRC_AT_SOURCE = 14
+/* An operand. What its kind has no use for is 0. A byte displacement of 128 or more stands for itself less 256, a word
+ * displacement of 32,768 or more for itself less 65,536. */
+struct mrc_operand {
+    uint8_t kind;         /* enum mrc_kind */
+    uint8_t named;        /* enum mrc_segment_code of memory and of a segment register, enum mrc_register_code of a register */
+    uint8_t mode;         /* enum mrc_addressing_code, of memory that is indirect */
+    uint8_t size;         /* enum mrc_size, of memory and registers */
+    uint16_t value;       /* offset, displacement or immediate; a byte is below 256 */
+    uint16_t far_segment; /* the segment of a far address, whose offset is the value */
 };
 
-/* Reads the ModRM byte at a position, and the displacement that follows it.
- *
- * Writes MRC_MRRM_RECORD bytes to the front of `out`, none behind them, and answers their number; where `room` is less,
- * writes nothing and answers 0. The record:
- *
- *     0         enum mrc_refusal: MRC_OUTSIDE_INPUT or MRC_COULD_NOT_READ_EXTRA_BYTES
- *     1         the ModRM byte
- *     2, 3      bytes taken from the position on, low byte first
- *     4         the register field, enum mrc_register_code
- *     5         enum mrc_kind: from MRC_DIRECT to MRC_REGISTER
- *     6         enum mrc_addressing_code, or enum mrc_register_code; 0 for MRC_DIRECT
- *     7         prefixes: 0, since the reader takes none
- *     8, 9      offset or displacement, low byte first; a displacement of 0 keeps its kind here
- *
- * Byte 1 and bytes 4 to 9 of a refusal are 0. */
-size_t mrc_mrrm(const uint8_t *bytes, size_t length, size_t position, uint8_t *out, size_t room);
+/* A decode's answer. Of a refusal every field but the first four is 0. */
+struct MRC_WORDS mrc_record {
+    uint8_t refusal;               /* enum mrc_refusal, 0 for an instruction */
+    uint8_t byte;                  /* the byte that the refusal carries */
+    uint16_t taken;                /* bytes taken from the position on */
+    uint16_t prefixes;             /* prefixes among them */
+    uint16_t reserved;             /* 0 */
+    uint8_t operation;             /* enum mrc_operation */
+    uint8_t repeat;                /* 0 no repeat, 1 repeat while equal (F3), 2 repeat while not equal (F2) */
+    uint8_t reach;                 /* 0, reserved: near or far */
+    uint8_t kept;                  /* 0, reserved: an override that is kept */
+    uint8_t written;               /* 0, reserved: displacement bytes written */
+    uint8_t operands;              /* how many operands there are: 0 to 2 */
+    uint8_t reserved_2[2];         /* 0 */
+    struct mrc_operand operand[3]; /* MRC_DESTINATION, MRC_SOURCE, MRC_THIRD; one that is not there is all 0 */
+};
+
+/* The operands of a record. No instruction has a third. */
+enum { MRC_DESTINATION = 0, MRC_SOURCE = 1, MRC_THIRD = 2 };
+
+/* Decodes the instruction at a position, with at most `budget` prefixes, and writes every byte of the record. */
+void mrc_decode(const uint8_t *bytes, size_t length, size_t position, uint8_t budget, struct mrc_record *record);
+
+/* The ModRM reader's answer. Of a refusal every field but the refusal and the bytes taken is 0. */
+struct MRC_WORDS mrc_modrm {
+    uint8_t refusal;            /* enum mrc_refusal: MRC_OUTSIDE_INPUT or MRC_COULD_NOT_READ_EXTRA_BYTES, else 0 */
+    uint8_t byte;               /* the ModRM byte */
+    uint16_t taken;             /* bytes taken from the position on */
+    uint8_t register_code;      /* what reg names: enum mrc_register_code */
+    uint8_t reserved[3];        /* 0 */
+    struct mrc_operand operand; /* what mod and rm name: from MRC_DIRECT to MRC_REGISTER, without segment and size */
+};
+
+/* Reads the ModRM byte at a position, and the displacement that follows it, and writes every byte of the record. A
+ * displacement of 0 keeps its kind here. */
+void mrc_mrrm(const uint8_t *bytes, size_t length, size_t position, struct mrc_modrm *record);
 
 /* The counts of a decode, without its record: the bytes taken, plus 65,536 times the prefixes, plus 2^32 times the refusal's
  * number, which is 0 for an instruction. */
@@ -108,8 +102,8 @@ uint32_t mrc_register(uint8_t field);
 uint32_t mrc_segment(uint8_t field);
 uint32_t mrc_addressing(uint8_t field);
 
-/* The size of an operand, by the first and the fourth of its six bytes: enum mrc_size. `size` counts for memory and registers
- * alone, from MRC_DIRECT to MRC_REGISTER. MRC_NO_SIZE is the answer for a far address and for MRC_DISPLACEMENT_NONE, and
+/* The size of an operand, by the kind and the size that a record has of it: enum mrc_size. `size` counts for memory and
+ * registers alone, from MRC_DIRECT to MRC_REGISTER. MRC_NO_SIZE is the answer for a far address and for MRC_DISPLACEMENT_NONE, and
  * also for MRC_ABSENT, for a kind that does not exist, and for memory or a register with a size other than MRC_BYTE and
  * MRC_WORD. */
 uint8_t mrc_operand_size(uint8_t kind, uint8_t size);

@@ -1,18 +1,17 @@
-// Replays stored answers of the given Rust: each line of standard input is a budget, a position, the record of the answer and the input, in
-// hex digits. Says how many agree with the decoder's answers, and the line of each that does not.
+// The given answers, of the Rust that the decoder follows: each line of standard input is a budget, a position, the record of the answer but for its
+// third operand, and the input, in hex digits. Says how many agree with the decoder's answers, and the line of each that does not.
 use libc::STDIN_FILENO;
 use libc::STDOUT_FILENO;
-use mrc_c::record::record_of;
-use mrc_decoder::decode::decode_instruction;
+use mrc_c::decode::mrc_decode;
 ghost use Prim.Native.Nat.{_≤_};
 ghost use lib.ListN.{length};
 
 // The room for the stored answers, and for the bytes of one input.
-const ROOM: usize = 400000;
+const ROOM: usize = 460000;
 
 const INPUT: usize = 512;
 
-// The byte at a place, and 0 past the end.
+// The byte at a position, and 0 past the end.
 fn byte_at(s: &[u8], at: usize) -> u8 {
     if at < s.len() { s[at] } else { 0 }
 }
@@ -22,14 +21,14 @@ fn digit(c: u8) -> u8 {
     if c < 58 { c % 16 } else { (c % 16 + 9) % 16 }
 }
 
-// The byte of the two digits at a place.
+// The byte of the two digits at a position.
 fn hex_at(s: &[u8], at: usize) -> u8
-    requires { ⌜ at ≤ 400600 ⌝ }
+    requires { ⌜ at ≤ 460600 ⌝ }
 {
     digit(byte_at(s, at)) % 16 * 16 + digit(byte_at(s, at + 1)) % 16
 }
 
-// The place of the next LF, or the end.
+// The position of the next LF, or the end.
 fn line_end(s: &[u8], from: usize) -> usize
     requires { ⌜ from ≤ length (now s) ⌝ }
     ensures { λ r. ⌜ (from ≤ r) × (r ≤ length (now (s .entry))) ⌝ }
@@ -44,23 +43,28 @@ fn line_end(s: &[u8], from: usize) -> usize
     i
 }
 
-// Whether the 20 bytes of a record are those whose digits stand at a place.
-fn same_record(record: [u8; 20], s: &[u8], at: usize) -> bool
-    requires { ⌜ at ≤ 400500 ⌝ }
+// Whether the bytes of a record's first four words, the lowest first, are those whose digits stand at a position, and there is no third operand.
+fn same_record(record: [u64; 5], s: &[u8], at: usize) -> bool
+    requires { ⌜ at ≤ 460500 ⌝ }
 {
     let mut i: usize = 0;
-    while i < 20 {
-        if record[i] != hex_at(s, at + 2 * i) {
+    let mut word: u64 = 0;
+    while i < 32 {
+        if i % 8 == 0 {
+            word = record[i / 8];
+        }
+        if (word % 256) as u8 != hex_at(s, at + 2 * i) {
             return false;
         }
+        word /= 256;
         i += 1;
     }
-    true
+    record[4] == 0
 }
 
-// Reads the input whose digits stand from a place up to an end, and answers how many bytes it has.
+// Reads the input whose digits stand from a position up to an end, and answers how many bytes it has.
 fn read_input(s: &[u8], from: usize, end: usize, input: &mut [u8]) -> usize
-    requires { ⌜ (from ≤ 400100) × (end ≤ 400000) ⌝ }
+    requires { ⌜ (from ≤ 460100) × (end ≤ 460000) ⌝ }
     ensures { λ r. ⌜ r ≤ length (now (input .entry)) ⌝ }
 {
     let mut n: usize = 0;
@@ -76,15 +80,16 @@ fn read_input(s: &[u8], from: usize, end: usize, input: &mut [u8]) -> usize
     n
 }
 
-// Whether the decoder's answer on the line that starts at a place is the stored one.
+// Whether the decoder's answer on the line that starts at a position is the stored one.
 fn agrees(s: &[u8], from: usize, end: usize) -> bool
-    requires { ⌜ (from ≤ 400000) × (end ≤ 400000) ⌝ }
+    requires { ⌜ (from ≤ 460000) × (end ≤ 460000) ⌝ }
 {
     let budget = hex_at(s, from);
     let at = 256 * (hex_at(s, from + 3) as usize) + (hex_at(s, from + 5) as usize);
     let mut input = [0u8; INPUT];
-    let n = read_input(s, from + 49, end, &mut input);
-    let record = record_of(decode_instruction(&input[..n], at, budget));
+    let n = read_input(s, from + 73, end, &mut input);
+    let mut record = [0u64; 5];
+    mrc_decode(&input[..n], at, budget, &mut record);
     same_record(record, s, from + 8)
 }
 
@@ -96,7 +101,7 @@ fn report(agree: u64, differ: u64) {
 }
 
 fn compare_all(s: &[u8])
-    requires { ⌜ length (now s) ≤ 400000 ⌝ }
+    requires { ⌜ length (now s) ≤ 460000 ⌝ }
 {
     let mut from: usize = 0;
     let mut agree: u64 = 0;

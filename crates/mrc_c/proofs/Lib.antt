@@ -1,4 +1,4 @@
-pub mod Whole
+pub mod Packing
 pub mod Counts
 pub mod SizeKept
 pub mod Settled

@@ -1,4 +1,4 @@
--- The size by the kind and the size of an operand's six bytes is the size of the operand, and past the kinds there is none.
+-- The size by the kind and the size of an operand's fields is the size of the operand, and past the kinds there is none.
 -- Assumes nothing.
 use mathlib.Core.Path.{_≡_, refl}
 use mathlib.Core.List.{[], _∷_}
@@ -9,10 +9,9 @@ use Rattle.mrc_instruction.specs.declared.operand.OperandSize.the-variants.{Byt
 use Rattle.mrc_instruction.specs.declared.operand.Displacement.{Displacement}
 use Rattle.mrc_instruction.specs.declared.operand.Immediate.{Immediate}
 use Rattle.mrc_instruction.specs.declared.operand.Operand.{Operand}
-use Rattle.mrc_instruction.specs.Operand.{sizeOf}
+use Rattle.mrc_instruction.specs.Operand.{sizeCode, sizeOf}
 use Rattle.mrc_instruction.proofs.LastArm.{ends}
-use Rattle.mrc_c.specs.Codes.{sizeCode}
-use Rattle.mrc_c.specs.Record.{operandFields}
+use Rattle.mrc_c.specs.Operands.{operandFields}
 use Rattle.mrc_c.specs.Sizes.{sizedCode, ownSize, sizesBy, sizeNumber}
 
 pub beyond : (own kind : ℕ) → 12 ≤ kind → getD (sizesBy own) kind 2 ≡ 2

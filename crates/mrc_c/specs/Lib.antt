@@ -1,9 +1,9 @@
-pub mod Codes
+pub mod Words
+pub mod Operands
 pub mod Record
 pub mod Fields
 pub mod Sizes
 pub mod Modrm
-pub mod Written
 pub mod Line
 pub mod Page
 pub mod Step

@@ -1,8 +1,9 @@
--- The line call's answer as one number, and its buffer.
+-- Rule 15.7: the line call's answer as one number, and its buffer.
 use Prim.Native.Nat.{ℕ, _+_, _*_}
 use mathlib.Core.Path.{_≡_}
 use mathlib.Core.List.{List}
 use lib.ListN.{length}
+use Rattle.mrc_instruction.specs.Widths.{words, doubleWords}
 use Rattle.mrc_line.specs.declared.line.LineAnswer.{LineAnswer}
 use Rattle.mrc_line.specs.Line.{lineText, answerOf, lineValues, after}
 
@@ -13,7 +14,7 @@ lengthOf (LineAnswer.Refused e) = 0
 
 -- the line's length, the bytes taken and the refusal's number; the first two are below 65,536
 abbrev pub lineCode : List ℕ → ℕ → LineAnswer → ℕ
-lineCode s at r = lengthOf r + 65536 * lineValues s at r .taken + 4294967296 * lineValues s at r .number
+lineCode s at r = lengthOf r + words * lineValues s at r .taken + doubleWords * lineValues s at r .number
 
 pub record LineWritten (s : List ℕ) (at : ℕ) (out : List ℕ) (r : ℕ) (done : List ℕ) : Type 0 where
   pub answer : r ≡ lineCode s at (answerOf s at (length out))

@@ -1,29 +1,67 @@
--- The record of a ModRM: 10 bytes. 0: the refusal's number, or 0. 1: the ModRM byte, or the refusal's. 2 and 3: the bytes taken. 4: the register that
--- reg names. 5: what mod and rm name. 6: its addressing mode or register. 7: the prefixes, of which there are none. 8 and 9: its offset or
--- displacement, low byte first.
-use Prim.Native.Nat.{ℕ}
+-- Rule 15.5: the record of a ModRM as C and Rust get it: its fields, and the two machine words that they are packed in.
+use Prim.Native.Nat.{ℕ, _+_, _<_}
+use mathlib.Core.Path.{_≡_}
 use mathlib.Core.List.{List, [], _∷_}
-use Rattle.mrc_instruction.specs.declared.operand.Displacement.{Displacement}
+use lib.ListN.{getD}
 use Rattle.mrc_instruction.specs.declared.mrrm.RegisterOrMemory.{RegisterOrMemory}
 use Rattle.mrc_instruction.specs.declared.mrrm.MrrmRead.{MrrmRead}
-use Rattle.mrc_instruction.specs.Values.{Values}
-use Rattle.mrc_instruction.specs.Read.{mrrmValues}
-use Rattle.mrc_line.specs.Target.{targetOf}
-use Rattle.mrc_c.specs.declared.operands.Fields.{Fields}
-use Rattle.mrc_c.specs.Codes.{registerCode, addressingCode}
-use Rattle.mrc_c.specs.Record.{low, high, fieldsOf, noOperand}
+use Rattle.mrc_instruction.specs.Widths.{words}
+use Rattle.mrc_instruction.specs.Errors.{numberOf, byteOf}
+use Rattle.mrc_instruction.specs.Register.{registerCode}
+use Rattle.mrc_instruction.specs.Operand.{addressingCode}
+use Rattle.mrc_instruction.specs.Signed.{unsignedByte, unsignedWord}
+use Rattle.mrc_c.specs.Words.{from, byteAt, wordAt, restAt, Holds}
+use Rattle.mrc_c.specs.Operands.{Fields, fieldsWord, fieldsIn, fieldsOf, noOperand}
 
-abbrev pub placeFields : RegisterOrMemory → Fields
-placeFields (RegisterOrMemory.Direct w) = fieldsOf 1 0 0 0 w
-placeFields (RegisterOrMemory.Indirect m) = fieldsOf 2 (addressingCode m) 0 0 0
-placeFields (RegisterOrMemory.DisplacementByte m d) = fieldsOf 3 (addressingCode m) 0 0 (low (targetOf 0 0 (Displacement.Byte d)))
-placeFields (RegisterOrMemory.DisplacementWord m d) = fieldsOf 4 (addressingCode m) 0 0 (targetOf 0 0 (Displacement.Word d))
-placeFields (RegisterOrMemory.Register r) = fieldsOf 5 (registerCode r) 0 0 0
+-- the first word: the refusal's number, or 0; the ModRM byte, or the refusal's; the bytes taken; the register that reg names
+pub record ModrmHead : Type 0 where
+  pub refusal : ℕ
+  pub byte : ℕ
+  pub taken : ℕ
+  pub register : ℕ
+  pub reserved : ℕ
 
-abbrev pub modrmLaid : Values → ℕ → ℕ → Fields → List ℕ
-modrmLaid v byte register f =
-    v .number ∷ byte ∷ low (v .taken) ∷ high (v .taken) ∷ register ∷ f .kind ∷ f .names ∷ v .prefixes ∷ f .low ∷ f .high ∷ []
+abbrev pub modrmWord : ModrmHead → ℕ
+modrmWord h = from 0 (h .refusal) + from 1 (h .byte) + from 2 (h .taken) + from 4 (h .register) + from 5 (h .reserved)
 
-unfoldable pub modrmRecord : MrrmRead → List ℕ
-modrmRecord (MrrmRead.Got m b n) = modrmLaid (mrrmValues (MrrmRead.Got m b n)) b (registerCode (m .register)) (placeFields (m .«register_or_memory»))
-modrmRecord (MrrmRead.Refused e n) = modrmLaid (mrrmValues (MrrmRead.Refused e n)) (mrrmValues (MrrmRead.Refused e n) .byte) 0 noOperand
+abbrev pub modrmIn : ℕ → ModrmHead
+modrmIn w = record { refusal = byteAt 0 w; byte = byteAt 1 w; taken = wordAt 2 w; register = byteAt 4 w; reserved = restAt 5 w }
+
+abbrev pub ModrmHeld : ModrmHead → ℕ → Type 0
+ModrmHeld = Holds modrmWord modrmIn
+
+pub record ModrmFits (h : ModrmHead) : Type 0 where
+  pub refusal : h .refusal < 256
+  pub byte : h .byte < 256
+  pub taken : h .taken < words
+  pub register : h .register < 256
+
+-- the second word: what mod and rm name
+pub record Modrm : Type 0 where
+  pub head : ModrmHead
+  pub operand : Fields
+
+abbrev pub modrmWords : Modrm → List ℕ
+modrmWords r = modrmWord (r .head) ∷ fieldsWord (r .operand) ∷ []
+
+abbrev pub modrmRecordIn : List ℕ → Modrm
+modrmRecordIn w = record { head = modrmIn (getD w 0 0); operand = fieldsIn (getD w 1 0) }
+
+-- the words are what the record is packed to, and the record is what is read from them
+pub record ModrmWritten (r : Modrm) (w : List ℕ) : Type 0 where
+  pub packed : w ≡ modrmWords r
+  pub kept : modrmRecordIn w ≡ r
+
+abbrev pub modrmBy : ℕ → ℕ → ℕ → ℕ → ModrmHead
+modrmBy refusal byte taken register = record { refusal = refusal; byte = byte; taken = taken; register = register; reserved = 0 }
+
+abbrev pub namedFields : RegisterOrMemory → Fields
+namedFields (RegisterOrMemory.Direct w) = fieldsOf 1 0 0 0 w 0
+namedFields (RegisterOrMemory.Indirect m) = fieldsOf 2 0 (addressingCode m) 0 0 0
+namedFields (RegisterOrMemory.DisplacementByte m d) = fieldsOf 3 0 (addressingCode m) 0 (unsignedByte d) 0
+namedFields (RegisterOrMemory.DisplacementWord m d) = fieldsOf 4 0 (addressingCode m) 0 (unsignedWord d) 0
+namedFields (RegisterOrMemory.Register r) = fieldsOf 5 (registerCode r) 0 0 0 0
+
+abbrev pub modrmOf : MrrmRead → Modrm
+modrmOf (MrrmRead.Got m b n) = record { head = modrmBy 0 b n (registerCode (m .register)); operand = namedFields (m .«register_or_memory») }
+modrmOf (MrrmRead.Refused e n) = record { head = modrmBy (numberOf e) (byteOf e) n 0; operand = noOperand }

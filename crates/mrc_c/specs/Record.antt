@@ -1,59 +1,132 @@
--- The record of an answer: 20 bytes. 0: the refusal's number, 0 for an instruction. 1: the refusal's byte. 2 and 3: the bytes taken. 4 and 5: the
--- prefixes. 6: the operation's place. 7: the repeat. 8 to 13: the destination. 14 to 19: the source. Words have their low byte first.
-use Prim.Native.Nat.{ℕ, _/_, _%_}
+-- Rule 15.1: the record of an answer as C and Rust get it: its fields, and the five machine words that they are packed in. The reach, the kept
+-- override, the displacement bytes written and the third operand have their places, and are 0.
+use Prim.Native.Nat.{ℕ, _+_, _<_}
+use mathlib.Core.Path.{_≡_}
 use mathlib.Core.List.{List, [], _∷_}
-use Rattle.mrc_instruction.specs.declared.register.Segment.{Segment}
-use Rattle.mrc_instruction.specs.declared.operand.OperandSize.{OperandSize}
-use Rattle.mrc_instruction.specs.declared.operand.AddressingMode.{AddressingMode}
-use Rattle.mrc_instruction.specs.declared.operand.Displacement.{Displacement}
-use Rattle.mrc_instruction.specs.declared.operand.Immediate.{Immediate}
-use Rattle.mrc_instruction.specs.declared.operand.Operand.{Operand}
+use lib.ListN.{getD}
+use Rattle.mrc_instruction.specs.declared.instruction.Repeat.{Repeat}
+use Rattle.mrc_instruction.specs.declared.instruction.Repeated.{Repeated}
 use Rattle.mrc_instruction.specs.declared.instruction.OperandSet.{OperandSet}
-use Rattle.mrc_names.specs.Places.{placeOf}
+use Rattle.mrc_instruction.specs.Widths.{words}
+use Rattle.mrc_instruction.specs.Operation.{operationNumber}
 use Rattle.mrc_rules.specs.declared.Answer.{Answer}
 use Rattle.mrc_rules.specs.Answer.{number, byte, taken, prefixes}
-use Rattle.mrc_line.specs.Target.{targetOf}
-use Rattle.mrc_c.specs.declared.operands.Fields.{Fields}
-use Rattle.mrc_c.specs.Codes.{sizeCode, segmentCode, registerCode, addressingCode, repeatCode}
+use Rattle.mrc_c.specs.Words.{from, byteAt, wordAt, Holds}
+use Rattle.mrc_c.specs.Operands.{Fields, fieldsWord, fieldsIn, FieldsFit, noOperand, operandFields}
 
--- the low byte and the high byte of a word
-abbrev pub low : ℕ → ℕ
-low n = n % 256
+-- the first word: what every answer carries
+pub record Head : Type 0 where
+  pub refusal : ℕ
+  pub byte : ℕ
+  pub taken : ℕ
+  pub prefixes : ℕ
+  pub reserved : ℕ
 
-abbrev pub high : ℕ → ℕ
-high n = n / 256 % 256
+abbrev pub headWord : Head → ℕ
+headWord h = from 0 (h .refusal) + from 1 (h .byte) + from 2 (h .taken) + from 4 (h .prefixes) + from 6 (h .reserved)
 
--- an operand's six bytes: its kind, the segment or register that it names, its addressing mode, its size, its number
-abbrev pub fieldsOf : ℕ → ℕ → ℕ → ℕ → ℕ → Fields
-fieldsOf kind names mode size number = record { kind = kind; names = names; mode = mode; size = size; low = low number; high = high number }
+abbrev pub headIn : ℕ → Head
+headIn w = record { refusal = byteAt 0 w; byte = byteAt 1 w; taken = wordAt 2 w; prefixes = wordAt 4 w; reserved = wordAt 6 w }
 
-abbrev pub noOperand : Fields
-noOperand = fieldsOf 0 0 0 0 0
+abbrev pub HeadHeld : Head → ℕ → Type 0
+HeadHeld = Holds headWord headIn
 
--- a displacement as a word that wraps at 65,536; of a byte, its low byte
-abbrev pub indirectFields : Segment → AddressingMode → Displacement → OperandSize → Fields
-indirectFields s m Displacement.None size = fieldsOf 2 (segmentCode s) (addressingCode m) (sizeCode size) 0
-indirectFields s m (Displacement.Byte d) size = fieldsOf 3 (segmentCode s) (addressingCode m) (sizeCode size) (low (targetOf 0 0 (Displacement.Byte d)))
-indirectFields s m (Displacement.Word d) size = fieldsOf 4 (segmentCode s) (addressingCode m) (sizeCode size) (targetOf 0 0 (Displacement.Word d))
+pub record HeadFits (h : Head) : Type 0 where
+  pub refusal : h .refusal < 256
+  pub byte : h .byte < 256
+  pub taken : h .taken < words
+  pub prefixes : h .prefixes < words
+  pub reserved : h .reserved < words
 
-abbrev pub immediateFields : Immediate → Fields
-immediateFields (Immediate.Byte b) = fieldsOf 7 0 0 0 b
-immediateFields (Immediate.Word w) = fieldsOf 8 0 0 0 w
+-- the second word: what an instruction has besides its operands
+pub record Body : Type 0 where
+  pub operation : ℕ
+  pub repeat : ℕ
+  pub reach : ℕ
+  pub kept : ℕ
+  pub written : ℕ
+  pub operands : ℕ
+  pub reserved : ℕ
 
-abbrev pub displacementFields : Displacement → Fields
-displacementFields Displacement.None = fieldsOf 9 0 0 0 0
-displacementFields (Displacement.Byte d) = fieldsOf 10 0 0 0 (low (targetOf 0 0 (Displacement.Byte d)))
-displacementFields (Displacement.Word d) = fieldsOf 11 0 0 0 (targetOf 0 0 (Displacement.Word d))
+abbrev pub bodyWord : Body → ℕ
+bodyWord b =
+    from 0 (b .operation) + from 1 (b .repeat) + from 2 (b .reach) + from 3 (b .kept) + from 4 (b .written) + from 5 (b .operands) + from 6 (b .reserved)
 
--- a segment-and-offset has its segment in the second and third byte
-abbrev pub operandFields : Operand → Fields
-operandFields (Operand.Direct s size w) = fieldsOf 1 (segmentCode s) 0 (sizeCode size) w
-operandFields (Operand.Indirect s size m d) = indirectFields s m d size
-operandFields (Operand.Register r) = fieldsOf 5 (registerCode (r .0)) 0 (sizeCode (r .1)) 0
-operandFields (Operand.Segment s) = fieldsOf 6 (segmentCode s) 0 0 0
-operandFields (Operand.Immediate i) = immediateFields i
-operandFields (Operand.Displacement d) = displacementFields d
-operandFields (Operand.SegmentAndOffset a) = fieldsOf 12 (low (a .segment)) (high (a .segment)) 0 (a .offset)
+abbrev pub bodyIn : ℕ → Body
+bodyIn w = record {
+  operation = byteAt 0 w;
+  repeat = byteAt 1 w;
+  reach = byteAt 2 w;
+  kept = byteAt 3 w;
+  written = byteAt 4 w;
+  operands = byteAt 5 w;
+  reserved = wordAt 6 w;
+}
+
+abbrev pub BodyHeld : Body → ℕ → Type 0
+BodyHeld = Holds bodyWord bodyIn
+
+pub record BodyFits (b : Body) : Type 0 where
+  pub operation : b .operation < 256
+  pub repeat : b .repeat < 256
+  pub reach : b .reach < 256
+  pub kept : b .kept < 256
+  pub written : b .written < 256
+  pub operands : b .operands < 256
+  pub reserved : b .reserved < words
+
+-- the other three: the operands, the destination first
+pub record Record : Type 0 where
+  pub head : Head
+  pub body : Body
+  pub destination : Fields
+  pub source : Fields
+  pub third : Fields
+
+pub record Fits (r : Record) : Type 0 where
+  pub head : HeadFits (r .head)
+  pub body : BodyFits (r .body)
+  pub destination : FieldsFit (r .destination)
+  pub source : FieldsFit (r .source)
+  pub third : FieldsFit (r .third)
+
+abbrev pub wordsOf : Record → List ℕ
+wordsOf r =
+    headWord (r .head) ∷ bodyWord (r .body) ∷ fieldsWord (r .destination) ∷ fieldsWord (r .source) ∷ fieldsWord (r .third) ∷ []
+
+abbrev pub recordIn : List ℕ → Record
+recordIn w = record {
+  head = headIn (getD w 0 0);
+  body = bodyIn (getD w 1 0);
+  destination = fieldsIn (getD w 2 0);
+  source = fieldsIn (getD w 3 0);
+  third = fieldsIn (getD w 4 0);
+}
+
+-- the words are what the record is packed to, and the record is what is read from them
+pub record Written (r : Record) (w : List ℕ) : Type 0 where
+  pub packed : w ≡ wordsOf r
+  pub kept : recordIn w ≡ r
+
+abbrev pub headBy : ℕ → ℕ → ℕ → ℕ → Head
+headBy refusal byte taken prefixes = record { refusal = refusal; byte = byte; taken = taken; prefixes = prefixes; reserved = 0 }
+
+abbrev pub headOf : Answer → Head
+headOf a = headBy (number a) (byte a) (taken a) (prefixes a)
+
+abbrev pub repeatCode : Repeated → ℕ
+repeatCode Repeated.None = 0
+repeatCode (Repeated.Some Repeat.Equal) = 1
+repeatCode (Repeated.Some Repeat.NotEqual) = 2
+
+abbrev pub bodyBy : ℕ → ℕ → ℕ → Body
+bodyBy operation repeat operands =
+    record { operation = operation; repeat = repeat; reach = 0; kept = 0; written = 0; operands = operands; reserved = 0 }
+
+abbrev pub countOf : OperandSet → ℕ
+countOf OperandSet.None = 0
+countOf (OperandSet.Destination d) = 1
+countOf (OperandSet.DestinationAndSource d s) = 2
 
 abbrev pub destinationOf : OperandSet → Fields
 destinationOf OperandSet.None = noOperand
@@ -65,17 +138,14 @@ sourceOf OperandSet.None = noOperand
 sourceOf (OperandSet.Destination d) = noOperand
 sourceOf (OperandSet.DestinationAndSource d s) = operandFields s
 
-abbrev pub laidOut : ℕ → ℕ → ℕ → ℕ → ℕ → ℕ → Fields → Fields → List ℕ
-laidOut number byte taken prefixes operation repeat d s =
-    number ∷ byte ∷ low taken ∷ high taken ∷ low prefixes ∷ high prefixes ∷ operation ∷ repeat
-    ∷ d .kind ∷ d .names ∷ d .mode ∷ d .size ∷ d .low ∷ d .high
-    ∷ s .kind ∷ s .names ∷ s .mode ∷ s .size ∷ s .low ∷ s .high ∷ []
-
--- what every answer carries, before what an instruction has besides
-abbrev pub carried : Answer → ℕ → ℕ → Fields → Fields → List ℕ
-carried a = laidOut (number a) (byte a) (taken a) (prefixes a)
-
-unfoldable pub recordOf : Answer → List ℕ
-recordOf (Answer.Decoded i n p) =
-    carried (Answer.Decoded i n p) (placeOf (i .operation)) (repeatCode (i .repeat)) (destinationOf (i .operands)) (sourceOf (i .operands))
-recordOf (Answer.Refused e n p) = carried (Answer.Refused e n p) 0 0 noOperand noOperand
+-- of a refusal all but the head is 0
+abbrev pub recordOf : Answer → Record
+recordOf (Answer.Decoded i n p) = record {
+  head = headOf (Answer.Decoded i n p);
+  body = bodyBy (operationNumber (i .operation)) (repeatCode (i .repeat)) (countOf (i .operands));
+  destination = destinationOf (i .operands);
+  source = sourceOf (i .operands);
+  third = noOperand;
+}
+recordOf (Answer.Refused e n p) =
+    record { head = headOf (Answer.Refused e n p); body = bodyBy 0 0 0; destination = noOperand; source = noOperand; third = noOperand }

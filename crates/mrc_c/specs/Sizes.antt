@@ -1,11 +1,11 @@
--- The size of an operand by the kind and the size of its six bytes: 0 Byte, 1 Word, 2 no size.
+-- Rule 15.9: the size of an operand by the kind and the size of its fields: 0 Byte, 1 Word, 2 no size.
 use Prim.Native.Nat.{ℕ}
 use mathlib.Core.Bool.{cond}
 use mathlib.Core.List.{List, [], _∷_}
 use lib.Dec.{ltb}
 use lib.ListN.{getD}
 use Rattle.mrc_instruction.specs.declared.operand.Sized.{Sized}
-use Rattle.mrc_c.specs.Codes.{sizeCode}
+use Rattle.mrc_instruction.specs.Operand.{sizeCode}
 
 abbrev pub sizedCode : Sized → ℕ
 sizedCode (Sized.Size size) = sizeCode size

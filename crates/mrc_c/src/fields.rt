@@ -1,7 +1,4 @@
 // The field readers for C and Rust: the code, or 65,536 times the refusal's number and its byte.
-use crate::codes::addressing_code;
-use crate::codes::register_code;
-use crate::codes::segment_code;
 use mrc_instruction::errors::Refusal;
 use mrc_instruction::operand::AddressingField;
 use mrc_instruction::operand::AddressingMode;
@@ -9,6 +6,7 @@ use mrc_instruction::register::RegisterEncoding;
 use mrc_instruction::register::RegisterField;
 use mrc_instruction::register::Segment;
 use mrc_instruction::register::SegmentField;
+use mrc_instruction::widths::WORDS;
 ghost use mathlib.Core.Path.{_≡_};
 ghost use Rattle.mrc_instruction.specs.Values.{refusedWith};
 ghost use Rattle.mrc_instruction.specs.Register.{registerField, segmentField};
@@ -18,7 +16,7 @@ ghost use Rattle.mrc_c.specs.Fields.{refusalCode, registerNumber, segmen
 fn refusal_code(refusal: Refusal) -> u32
     ensures { λ r. ⌜ r ≡ refusalCode (refusedWith refusal 0 0) ⌝ }
 {
-    65536 * (refusal.number() as u32) + (refusal.byte() as u32)
+    (WORDS as u32) * (refusal.number() as u32) + (refusal.byte() as u32)
 }
 
 #[no_mangle]
@@ -26,7 +24,7 @@ pub extern "C" fn mrc_register(field: u8) -> u32
     ensures { λ r. ⌜ r ≡ registerNumber (registerField field) ⌝ }
 {
     match RegisterEncoding::try_from_encoding(field) {
-        RegisterField::Found(register) => register_code(register) as u32,
+        RegisterField::Found(register) => register.into_encoding() as u32,
         RegisterField::Refused(refusal) => refusal_code(refusal),
     }
 }
@@ -36,7 +34,7 @@ pub extern "C" fn mrc_segment(field: u8) -> u32
     ensures { λ r. ⌜ r ≡ segmentNumber (segmentField field) ⌝ }
 {
     match Segment::try_from_encoding(field) {
-        SegmentField::Found(segment) => segment_code(segment) as u32,
+        SegmentField::Found(segment) => segment.into_encoding() as u32,
         SegmentField::Refused(refusal) => refusal_code(refusal),
     }
 }
@@ -46,7 +44,7 @@ pub extern "C" fn mrc_addressing(field: u8) -> u32
     ensures { λ r. ⌜ r ≡ addressingNumber (addressingField field) ⌝ }
 {
     match AddressingMode::try_from_encoding(field) {
-        AddressingField::Found(mode) => addressing_code(mode) as u32,
+        AddressingField::Found(mode) => mode.into_encoding() as u32,
         AddressingField::Refused(refusal) => refusal_code(refusal),
     }
 }

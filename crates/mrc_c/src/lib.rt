@@ -1,12 +1,11 @@
-// What C and Rust call: the library's answers as numbers and bytes.
-mod codes;
+// What C and Rust call: the library's answers as numbers, and as records of machine words.
 pub mod decode;
 pub mod fields;
 pub mod line;
 pub mod modrm;
 mod operands;
 pub mod page;
-pub mod record;
+mod record;
 pub mod sizes;
 pub mod step;
-mod write;
+mod words;

@@ -1,4 +1,6 @@
 // The line call for C and Rust.
+use mrc_instruction::widths::DOUBLE_WORDS;
+use mrc_instruction::widths::WORDS;
 use mrc_line::line::LineAnswer;
 use mrc_line::line::line;
 ghost use Rattle.mrc_c.specs.Line.{LineWritten};
@@ -10,8 +12,8 @@ pub extern "C" fn mrc_line(image: &[u8], at: usize, out: &mut [u8]) -> u64
 {
     match line(image, at, out) {
         LineAnswer::Line { len, taken } => {
-            ((len % 65536) as u64) + 65536 * ((taken % 65536) as u64)
+            ((len % WORDS) as u64) + (WORDS as u64) * ((taken % WORDS) as u64)
         }
-        LineAnswer::Refused(refusal) => 4294967296 * (refusal.number() as u64),
+        LineAnswer::Refused(refusal) => (DOUBLE_WORDS as u64) * (refusal.number() as u64),
     }
 }

@@ -1,91 +1,69 @@
-// The ModRM reader for C and Rust.
-use crate::codes::addressing_code;
-use crate::codes::register_code;
-use crate::operands::Fields;
-use crate::operands::six;
-use crate::write::write_whole;
+// The ModRM reader for C and Rust: two machine words.
+use crate::operands::fields_word;
+use crate::words::FROM_1;
+use crate::words::FROM_2;
+use crate::words::FROM_4;
 use mrc_instruction::mrrm::MrrmRead;
 use mrc_instruction::mrrm::RegisterOrMemory;
 use mrc_instruction::mrrm::read_mrrm;
-use mrc_instruction::operand::Displacement;
-use mrc_line::target::target;
-ghost use mathlib.Core.Path.{_≡_};
+use mrc_instruction::signed::unsigned_byte;
+use mrc_instruction::signed::unsigned_word;
+ghost use Prim.Native.Nat.{_<_};
+ghost use Rattle.mrc_instruction.specs.Widths.{words};
 ghost use Rattle.mrc_instruction.specs.Reader.{readAt};
 ghost use Rattle.mrc_instruction.specs.Mrrm.{aModRM};
-ghost use Rattle.mrc_instruction.specs.Read.{mrrmRead};
-ghost use Rattle.mrc_c.specs.Modrm.{placeFields, modrmRecord};
-ghost use Rattle.mrc_c.specs.Written.{Written};
+ghost use Rattle.mrc_instruction.specs.Read.{mrrmRead, mrrmValues};
+ghost use Rattle.mrc_c.specs.Operands.{OperandHeld};
+ghost use Rattle.mrc_c.specs.Modrm.{namedFields, modrmBy, ModrmHeld, modrmOf, ModrmWritten};
 
-fn place_fields(place: RegisterOrMemory) -> Fields
-    ensures { λ r. ⌜ r ≡ placeFields place ⌝ }
+fn named_word(named: RegisterOrMemory) -> u64
+    ensures { λ r. ⌜ OperandHeld (namedFields named) r ⌝ }
 {
-    match place {
-        RegisterOrMemory::Direct(offset) => six(1, 0, 0, 0, offset),
-        RegisterOrMemory::Indirect(mode) => six(2, addressing_code(mode), 0, 0, 0),
-        RegisterOrMemory::DisplacementByte(mode, d) => six(
-            3,
-            addressing_code(mode),
-            0,
-            0,
-            target(0, 0, Displacement::Byte(d)) % 256,
-        ),
-        RegisterOrMemory::DisplacementWord(mode, d) => six(
-            4,
-            addressing_code(mode),
-            0,
-            0,
-            target(0, 0, Displacement::Word(d)),
-        ),
-        RegisterOrMemory::Register(register) => six(5, register_code(register), 0, 0, 0),
+    match named {
+        RegisterOrMemory::Direct(offset) => return fields_word(1, 0, 0, 0, offset, 0),
+        RegisterOrMemory::Indirect(mode) => return fields_word(2, 0, mode.into_encoding(), 0, 0, 0),
+        RegisterOrMemory::DisplacementByte(mode, d) => {
+            return fields_word(3, 0, mode.into_encoding(), 0, unsigned_byte(d) as u16, 0);
+        }
+        RegisterOrMemory::DisplacementWord(mode, d) => {
+            return fields_word(4, 0, mode.into_encoding(), 0, unsigned_word(d), 0);
+        }
+        RegisterOrMemory::Register(register) => {
+            return fields_word(5, register.into_encoding(), 0, 0, 0, 0);
+        }
     }
 }
 
-fn modrm_record(read: MrrmRead) -> [u8; 10]
-    ensures { λ r. ⌜ r ≡ modrmRecord read ⌝ }
+fn modrm_word(refusal: u8, byte: u8, taken: usize, register: u8) -> u64
+    requires { ⌜ taken < words ⌝ }
+    ensures { λ r. ⌜ ModrmHeld (modrmBy refusal byte taken register) r ⌝ }
+{
+    (refusal as u64) + FROM_1 * (byte as u64) + FROM_2 * (taken as u64) + FROM_4 * (register as u64)
+}
+
+fn modrm_record(read: MrrmRead) -> [u64; 2]
+    requires { ⌜ mrrmValues read .taken < words ⌝ }
+    ensures { λ r. ⌜ ModrmWritten (modrmOf read) r ⌝ }
 {
     match read {
         MrrmRead::Got(mrrm, byte, taken) => {
             let register = mrrm.register;
-            let place = mrrm.register_or_memory;
-            let code = register_code(register);
-            let f = place_fields(place);
-            [
-                0,
-                byte,
-                (taken % 256) as u8,
-                (taken / 256 % 256) as u8,
-                code,
-                f.kind,
-                f.names,
-                0,
-                f.low,
-                f.high,
-            ]
+            let named = mrrm.register_or_memory;
+            return [
+                modrm_word(0, byte, taken, register.into_encoding()),
+                named_word(named),
+            ];
         }
         MrrmRead::Refused(refusal, taken) => {
-            let number = refusal.number();
-            let byte = refusal.byte();
-            [
-                number,
-                byte,
-                (taken % 256) as u8,
-                (taken / 256 % 256) as u8,
-                0,
-                0,
-                0,
-                0,
-                0,
-                0,
-            ]
+            return [modrm_word(refusal.number(), refusal.byte(), taken, 0), 0];
         }
     }
 }
 
-// Writes the record of a ModRM, and answers its length; 0 where it has no room.
+// Writes the record of a ModRM.
 #[no_mangle]
-pub extern "C" fn mrc_mrrm(s: &[u8], at: usize, out: &mut [u8]) -> usize
-    ensures { λ r. ⌜ Written (modrmRecord (mrrmRead (readAt aModRM (now (s .entry)) at))) (now (out .entry)) r (now (out .exit)) ⌝ }
+pub extern "C" fn mrc_mrrm(s: &[u8], at: usize, out: &mut [u64; 2])
+    ensures { λ _. ⌜ ModrmWritten (modrmOf (mrrmRead (readAt aModRM (now (s .entry)) at))) (now (out .exit)) ⌝ }
 {
-    let bytes = modrm_record(read_mrrm(s, at));
-    write_whole(out, &bytes)
+    *out = modrm_record(read_mrrm(s, at));
 }

@@ -1,108 +1,91 @@
-// An operand in six bytes.
-use crate::codes::addressing_code;
-use crate::codes::register_code;
-use crate::codes::segment_code;
-use crate::codes::size_code;
+// An operand in one machine word.
+use crate::words::FROM_1;
+use crate::words::FROM_2;
+use crate::words::FROM_3;
+use crate::words::FROM_4;
+use crate::words::FROM_6;
 use mrc_instruction::operand::AddressingMode;
 use mrc_instruction::operand::Displacement;
 use mrc_instruction::operand::Immediate;
 use mrc_instruction::operand::Operand;
 use mrc_instruction::operand::OperandSize;
 use mrc_instruction::register::Segment;
-use mrc_line::target::target;
-ghost use mathlib.Core.Path.{_≡_};
-ghost use Rattle.mrc_c.specs.Record.{fieldsOf, indirectFields, immediateFields, displacementFields, operandFields};
+use mrc_instruction::signed::unsigned_byte;
+use mrc_instruction::signed::unsigned_word;
+ghost use Rattle.mrc_c.specs.Operands.{OperandHeld, fieldsOf, indirectFields, immediateFields, displacementFields, operandFields};
 
-// Its kind; the segment or register that it names; its addressing mode; its size; the low and the high byte of its number.
-pub struct Fields {
-    pub kind: u8,
-    pub names: u8,
-    pub mode: u8,
-    pub size: u8,
-    pub low: u8,
-    pub high: u8,
-}
-
-pub fn six(kind: u8, names: u8, mode: u8, size: u8, number: u16) -> Fields
-    ensures { λ r. ⌜ r ≡ fieldsOf kind names mode size number ⌝ }
+pub fn fields_word(kind: u8, named: u8, mode: u8, size: u8, value: u16, far_segment: u16) -> u64
+    ensures { λ r. ⌜ OperandHeld (fieldsOf kind named mode size value «far_segment») r ⌝ }
 {
-    Fields {
-        kind,
-        names,
-        mode,
-        size,
-        low: (number % 256) as u8,
-        high: (number / 256 % 256) as u8,
-    }
+    (kind as u64)
+        + FROM_1 * (named as u64)
+        + FROM_2 * (mode as u64)
+        + FROM_3 * (size as u64)
+        + FROM_4 * (value as u64)
+        + FROM_6 * (far_segment as u64)
 }
 
-fn indirect_fields(
+fn indirect_word(
     segment: Segment,
     mode: AddressingMode,
     displacement: Displacement,
     size: OperandSize,
-) -> Fields
-    ensures { λ r. ⌜ r ≡ indirectFields segment mode displacement size ⌝ }
+) -> u64
+    ensures { λ r. ⌜ OperandHeld (indirectFields segment mode displacement size) r ⌝ }
 {
-    let names = segment_code(segment);
-    let by = addressing_code(mode);
-    let wide = size_code(size);
-    let number = target(0, 0, displacement);
+    let named = segment.into_encoding();
+    let by = mode.into_encoding();
+    let wide = size.into_encoding();
     match displacement {
-        Displacement::None => six(2, names, by, wide, 0),
-        Displacement::Byte(_) => six(3, names, by, wide, number % 256),
-        Displacement::Word(_) => six(4, names, by, wide, number),
+        Displacement::None => return fields_word(2, named, by, wide, 0, 0),
+        Displacement::Byte(d) => return fields_word(3, named, by, wide, unsigned_byte(d) as u16, 0),
+        Displacement::Word(d) => return fields_word(4, named, by, wide, unsigned_word(d), 0),
     }
 }
 
-fn immediate_fields(value: Immediate) -> Fields
-    ensures { λ r. ⌜ r ≡ immediateFields value ⌝ }
+fn immediate_word(value: Immediate) -> u64
+    ensures { λ r. ⌜ OperandHeld (immediateFields value) r ⌝ }
 {
     match value {
-        Immediate::Byte(byte) => six(7, 0, 0, 0, byte as u16),
-        Immediate::Word(word) => six(8, 0, 0, 0, word),
+        Immediate::Byte(byte) => return fields_word(7, 0, 0, 0, byte as u16, 0),
+        Immediate::Word(word) => return fields_word(8, 0, 0, 0, word, 0),
     }
 }
 
-fn displacement_fields(value: Displacement) -> Fields
-    ensures { λ r. ⌜ r ≡ displacementFields value ⌝ }
+fn displacement_word(value: Displacement) -> u64
+    ensures { λ r. ⌜ OperandHeld (displacementFields value) r ⌝ }
 {
-    let number = target(0, 0, value);
     match value {
-        Displacement::None => six(9, 0, 0, 0, 0),
-        Displacement::Byte(_) => six(10, 0, 0, 0, number % 256),
-        Displacement::Word(_) => six(11, 0, 0, 0, number),
+        Displacement::None => return fields_word(9, 0, 0, 0, 0, 0),
+        Displacement::Byte(d) => return fields_word(10, 0, 0, 0, unsigned_byte(d) as u16, 0),
+        Displacement::Word(d) => return fields_word(11, 0, 0, 0, unsigned_word(d), 0),
     }
 }
 
-pub fn operand_fields(operand: Operand) -> Fields
-    ensures { λ r. ⌜ r ≡ operandFields operand ⌝ }
+pub fn operand_word(operand: Operand) -> u64
+    ensures { λ r. ⌜ OperandHeld (operandFields operand) r ⌝ }
 {
     match operand {
         Operand::Direct(segment, size, offset) => {
-            six(1, segment_code(segment), 0, size_code(size), offset)
+            let named = segment.into_encoding();
+            let wide = size.into_encoding();
+            return fields_word(1, named, 0, wide, offset, 0);
         }
         Operand::Indirect(segment, size, mode, displacement) => {
-            indirect_fields(segment, mode, displacement, size)
+            return indirect_word(segment, mode, displacement, size);
         }
         Operand::Register(register) => {
             let named = register.0;
             let size = register.1;
-            six(5, register_code(named), 0, size_code(size), 0)
+            return fields_word(5, named.into_encoding(), 0, size.into_encoding(), 0, 0);
         }
-        Operand::Segment(segment) => six(6, segment_code(segment), 0, 0, 0),
-        Operand::Immediate(value) => immediate_fields(value),
-        Operand::Displacement(value) => displacement_fields(value),
+        Operand::Segment(segment) => return fields_word(6, segment.into_encoding(), 0, 0, 0, 0),
+        Operand::Immediate(value) => return immediate_word(value),
+        Operand::Displacement(value) => return displacement_word(value),
         Operand::SegmentAndOffset(address) => {
             let segment = address.segment;
             let offset = address.offset;
-            six(
-                12,
-                (segment % 256) as u8,
-                (segment / 256 % 256) as u8,
-                0,
-                offset,
-            )
+            return fields_word(12, 0, 0, 0, offset, segment);
         }
     }
 }

@@ -1,4 +1,5 @@
 // The page call for C and Rust.
+use mrc_instruction::widths::DOUBLE_WORDS;
 use mrc_line::page::write_page;
 ghost use Rattle.mrc_c.specs.Page.{PageWritten};
 
@@ -11,5 +12,5 @@ pub extern "C" fn mrc_page(image: &[u8], at: usize, out: &mut [u8]) -> u64
     let len = page.len;
     let next = page.next;
     let taken = next - at;
-    (len as u64) + 4294967296 * (taken as u64)
+    (len as u64) + (DOUBLE_WORDS as u64) * (taken as u64)
 }

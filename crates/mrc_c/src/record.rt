@@ -1,76 +1,48 @@
-// The record of an answer: 20 bytes.
-use crate::codes::repeat_code;
-use crate::operands::Fields;
-use crate::operands::operand_fields;
-use crate::operands::six;
+// The record of an answer: five machine words.
+use crate::operands::operand_word;
+use crate::words::FROM_1;
+use crate::words::FROM_2;
+use crate::words::FROM_4;
+use crate::words::FROM_5;
 use mrc_instruction::instruction::OperandSet;
-use mrc_names::places::place;
+use mrc_instruction::instruction::Repeat;
+use mrc_instruction::instruction::Repeated;
 use mrc_rules::Answer;
 ghost use mathlib.Core.Path.{_≡_};
-ghost use Rattle.mrc_c.specs.Record.{recordOf, laidOut, destinationOf, sourceOf};
+ghost use Prim.Native.Nat.{_<_};
+ghost use Rattle.mrc_instruction.specs.Widths.{words};
+ghost use Rattle.mrc_rules.specs.Answer.{taken, prefixes};
+ghost use Rattle.mrc_c.specs.Record.{HeadHeld, BodyHeld, headBy, bodyBy, repeatCode, recordOf, Written};
 
-// The numbers of an answer but for its operands.
-struct Head {
-    number: u8,
-    byte: u8,
-    taken: usize,
-    prefixes: usize,
-    operation: u8,
-    repeat: u8,
+fn head_word(refusal: u8, byte: u8, taken: usize, prefixes: usize) -> u64
+    requires { ⌜ (taken < words) × (prefixes < words) ⌝ }
+    ensures { λ r. ⌜ HeadHeld (headBy refusal byte taken prefixes) r ⌝ }
+{
+    (refusal as u64) + FROM_1 * (byte as u64) + FROM_2 * (taken as u64) + FROM_4 * (prefixes as u64)
 }
 
-fn laid_out(head: Head, destination: Fields, source: Fields) -> [u8; 20]
-    ensures { λ r. ⌜ r ≡ laidOut (head .number) (head .byte) (head .taken) (head .prefixes) (head .operation) (head .repeat) destination source ⌝ }
+fn body_word(operation: u8, repeat: u8, operands: u8) -> u64
+    ensures { λ r. ⌜ BodyHeld (bodyBy operation repeat operands) r ⌝ }
 {
-    let taken = head.taken;
-    let prefixes = head.prefixes;
-    [
-        head.number,
-        head.byte,
-        (taken % 256) as u8,
-        (taken / 256 % 256) as u8,
-        (prefixes % 256) as u8,
-        (prefixes / 256 % 256) as u8,
-        head.operation,
-        head.repeat,
-        destination.kind,
-        destination.names,
-        destination.mode,
-        destination.size,
-        destination.low,
-        destination.high,
-        source.kind,
-        source.names,
-        source.mode,
-        source.size,
-        source.low,
-        source.high,
-    ]
+    (operation as u64) + FROM_1 * (repeat as u64) + FROM_5 * (operands as u64)
 }
 
-fn destination_of(operands: OperandSet) -> Fields
-    ensures { λ r. ⌜ r ≡ destinationOf operands ⌝ }
+fn repeat_code(repeated: Repeated) -> u8
+    ensures { λ r. ⌜ r ≡ repeatCode repeated ⌝ }
 {
-    match operands {
-        OperandSet::None => six(0, 0, 0, 0, 0),
-        OperandSet::Destination(destination) => operand_fields(destination),
-        OperandSet::DestinationAndSource(destination, _) => operand_fields(destination),
+    match repeated {
+        Repeated::None => 0,
+        Repeated::Some(repeat) => match repeat {
+            Repeat::Equal => 1,
+            Repeat::NotEqual => 2,
+        },
     }
 }
 
-fn source_of(operands: OperandSet) -> Fields
-    ensures { λ r. ⌜ r ≡ sourceOf operands ⌝ }
-{
-    match operands {
-        OperandSet::None => six(0, 0, 0, 0, 0),
-        OperandSet::Destination(_) => six(0, 0, 0, 0, 0),
-        OperandSet::DestinationAndSource(_, source) => operand_fields(source),
-    }
-}
-
-// The instruction or the refusal, the bytes taken and the prefixes, in 20 bytes.
-pub fn record_of(answer: Answer) -> [u8; 20]
-    ensures { λ r. ⌜ r ≡ recordOf answer ⌝ }
+// The instruction or the refusal, the bytes taken and the prefixes.
+pub fn record_of(answer: Answer) -> [u64; 5]
+    requires { ⌜ (taken answer < words) × (prefixes answer < words) ⌝ }
+    ensures { λ r. ⌜ Written (recordOf answer) r ⌝ }
 {
     match answer {
         Answer::Decoded {
@@ -81,34 +53,34 @@ pub fn record_of(answer: Answer) -> [u8; 20]
             let operation = instruction.operation;
             let operands = instruction.operands;
             let repeat = instruction.repeat;
-            laid_out(
-                Head {
-                    number: 0,
-                    byte: 0,
-                    taken,
-                    prefixes,
-                    operation: place(operation),
-                    repeat: repeat_code(repeat),
-                },
-                destination_of(operands),
-                source_of(operands),
-            )
+            let head = head_word(0, 0, taken, prefixes);
+            let number = operation.number();
+            let code = repeat_code(repeat);
+            match operands {
+                OperandSet::None => return [head, body_word(number, code, 0), 0, 0, 0],
+                OperandSet::Destination(destination) => {
+                    let body = body_word(number, code, 1);
+                    return [head, body, operand_word(destination), 0, 0];
+                }
+                OperandSet::DestinationAndSource(destination, source) => {
+                    let body = body_word(number, code, 2);
+                    return [
+                        head,
+                        body,
+                        operand_word(destination),
+                        operand_word(source),
+                        0,
+                    ];
+                }
+            }
         }
         Answer::Refused {
             refusal,
             taken,
             prefixes,
-        } => laid_out(
-            Head {
-                number: refusal.number(),
-                byte: refusal.byte(),
-                taken,
-                prefixes,
-                operation: 0,
-                repeat: 0,
-            },
-            six(0, 0, 0, 0, 0),
-            six(0, 0, 0, 0, 0),
-        ),
+        } => {
+            let head = head_word(refusal.number(), refusal.byte(), taken, prefixes);
+            return [head, 0, 0, 0, 0];
+        }
     }
 }

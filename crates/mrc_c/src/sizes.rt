@@ -1,4 +1,4 @@
-// The size of an operand for C and Rust, by the kind and the size of its six bytes.
+// The size of an operand for C and Rust, by the kind and the size of its fields.
 ghost use mathlib.Core.Path.{_≡_};
 ghost use Rattle.mrc_c.specs.Sizes.{ownSize, sizeNumber};
 

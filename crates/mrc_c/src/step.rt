@@ -1,5 +1,7 @@
 // The counts of a decode for C and Rust.
 use mrc_decoder::decode::decode_instruction;
+use mrc_instruction::widths::DOUBLE_WORDS;
+use mrc_instruction::widths::WORDS;
 use mrc_rules::Answer;
 ghost use mathlib.Core.Path.{_≡_};
 ghost use Rattle.mrc_rules.specs.Decode.{decodeAt};
@@ -15,14 +17,16 @@ pub extern "C" fn mrc_step(s: &[u8], at: usize, budget: u8) -> u64
             instruction: _,
             taken,
             prefixes,
-        } => ((taken % 65536) as u64) + 65536 * ((prefixes % 65536) as u64),
+        } => ((taken % WORDS) as u64) + (WORDS as u64) * ((prefixes % WORDS) as u64),
         Answer::Refused {
             refusal,
             taken,
             prefixes,
         } => {
             let number = refusal.number() as u64;
-            ((taken % 65536) as u64) + 65536 * ((prefixes % 65536) as u64) + 4294967296 * number
+            ((taken % WORDS) as u64)
+                + (WORDS as u64) * ((prefixes % WORDS) as u64)
+                + (DOUBLE_WORDS as u64) * number
         }
     }
 }

@@ -11,11 +11,13 @@ const REPEATS: usize = 1000;
 /// A name, and the pass over an image.
 pub type Pass = (&'static str, fn(&[u8]) -> usize);
 
-pub const PASSES: [Pass; 9] = [
+pub const PASSES: [Pass; 11] = [
     ("empty", |_| 0),
     ("ours-decode", |image| steps(image, ours)),
     ("step-decode", |image| steps(image, our_step)),
+    ("record-decode", |image| steps(image, record)),
     ("binding-decode", |image| steps(image, binding)),
+    ("iterator-decode", |image| steps(image, iterator)),
     ("rust-decode", |image| steps(image, given_rust)),
     ("ours-lines", |image| steps(image, our_line)),
     ("rust-lines", |image| steps(image, given_line)),
@@ -51,15 +53,26 @@ fn ours_with_all_prefixes(image: &[u8], at: usize) -> usize {
 }
 
 fn ours_within(image: &[u8], at: usize, budget: u8) -> usize {
-    let mut record = [0; boundary::DECODE_RECORD];
+    let mut record = boundary::Record::default();
     boundary::decode(image, at, budget, &mut record);
-    let taken = u16::from_le_bytes([record[2], record[3]]);
-    moved(record[0] == 0, usize::from(taken))
+    moved(record.refusal == 0, usize::from(record.taken))
 }
 
 fn our_step(image: &[u8], at: usize) -> usize {
     let counts = black_box(boundary::step(image, at, USUAL_BUDGET));
     moved(counts >> 32 == 0, (counts & 0xFFFF) as usize)
+}
+
+fn record(image: &[u8], at: usize) -> usize {
+    let record = mrc::record_at(image, at, USUAL_BUDGET);
+    black_box(&record);
+    moved(record.refusal().is_none(), record.taken())
+}
+
+fn iterator(image: &[u8], at: usize) -> usize {
+    let mut bytes = image[at..].iter().copied();
+    let result = black_box(mrc::decode_instruction(&mut bytes));
+    moved(result.is_ok(), image.len() - at - bytes.len())
 }
 
 fn binding(image: &[u8], at: usize) -> usize {

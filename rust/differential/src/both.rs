@@ -9,8 +9,40 @@ use mrc::boundary as ours;
 /// A line, or the refusal of a line call with any room.
 type Listed = Result<listing::Line, Refusal>;
 
-/// What a buffer holds before a call.
+/// What a buffer and every byte of a record hold before a call.
 const UNTOUCHED: u8 = 0xA5;
+const UNTOUCHED_WORD: u16 = u16::from_le_bytes([UNTOUCHED; 2]);
+const NO_OPERAND: ours::Operand = ours::Operand {
+    kind: UNTOUCHED,
+    named: UNTOUCHED,
+    mode: UNTOUCHED,
+    size: UNTOUCHED,
+    value: UNTOUCHED_WORD,
+    far_segment: UNTOUCHED_WORD,
+};
+const NO_RECORD: ours::Record = ours::Record {
+    refusal: UNTOUCHED,
+    byte: UNTOUCHED,
+    taken: UNTOUCHED_WORD,
+    prefixes: UNTOUCHED_WORD,
+    reserved: UNTOUCHED_WORD,
+    operation: UNTOUCHED,
+    repeat: UNTOUCHED,
+    reach: UNTOUCHED,
+    kept: UNTOUCHED,
+    written: UNTOUCHED,
+    operands: UNTOUCHED,
+    reserved_2: [UNTOUCHED; 2],
+    operand: [NO_OPERAND; 3],
+};
+const NO_MODRM: ours::Modrm = ours::Modrm {
+    refusal: UNTOUCHED,
+    byte: UNTOUCHED,
+    taken: UNTOUCHED_WORD,
+    register: UNTOUCHED,
+    reserved: [UNTOUCHED; 3],
+    operand: NO_OPERAND,
+};
 /// More room than any line has.
 pub const MUCH_ROOM: usize = 128;
 
@@ -18,9 +50,9 @@ pub const MUCH_ROOM: usize = 128;
 pub fn decode(tally: &mut Tally, bytes: &[u8], at: usize, budget: u8) {
     let rust = oracle::decode(bytes, at, budget);
     let question = |call| Question::new(call, bytes, at, Limit::Budget(budget));
-    let mut out = [UNTOUCHED; record::LENGTH];
+    let mut out = NO_RECORD;
     ours::decode(bytes, at, budget, &mut out);
-    tally.note(&record::of(&rust), &out, || question("decode"));
+    tally.note(&record::of(&rust), &out.bytes(), || question("decode"));
     let step = ours::step(bytes, at, budget);
     let rust = record::step(&rust);
     tally.note(&rust.to_be_bytes(), &step.to_be_bytes(), || {
@@ -30,47 +62,38 @@ pub fn decode(tally: &mut Tally, bytes: &[u8], at: usize, budget: u8) {
 
 pub fn mrrm(tally: &mut Tally, bytes: &[u8], at: usize) {
     let rust = modrm::read(bytes, at);
-    let mut out = [UNTOUCHED; modrm::LENGTH];
+    let mut out = NO_MODRM;
     ours::mrrm(bytes, at, &mut out);
-    tally.note(&rust, &out, || {
+    tally.note(&rust, &out.bytes(), || {
         Question::new("mrrm", bytes, at, Limit::None)
     });
 }
 
-/// The decoder's returned count and the whole of a buffer of `room` bytes.
-pub fn decode_into(tally: &mut Tally, bytes: &[u8], room: usize) {
+/// A decode into the second of three records, and the other two.
+pub fn decode_between(tally: &mut Tally, bytes: &[u8]) {
     let rust = record::of(&oracle::decode(bytes, 0, USUAL_BUDGET));
-    let mut out = vec![UNTOUCHED; room];
-    let written = ours::decode(bytes, 0, USUAL_BUDGET, &mut out);
-    tally.note(&written_into(&rust, room), &counted(written, out), || {
-        Question::new("decode into a buffer", bytes, 0, Limit::Room(room))
+    let mut out = [NO_RECORD; 3];
+    ours::decode(bytes, 0, USUAL_BUDGET, &mut out[1]);
+    let out = out.map(ours::Record::bytes).concat();
+    tally.note(&between_untouched(&rust), &out, || {
+        Question::new("decode between records", bytes, 0, Limit::None)
     });
 }
 
-/// The ModRM reader's returned count and the whole of a buffer of `room` bytes.
-pub fn mrrm_into(tally: &mut Tally, bytes: &[u8], room: usize) {
+/// The ModRM reader into the second of three records, and the other two.
+pub fn mrrm_between(tally: &mut Tally, bytes: &[u8]) {
     let rust = modrm::read(bytes, 0);
-    let mut out = vec![UNTOUCHED; room];
-    let written = ours::mrrm(bytes, 0, &mut out);
-    tally.note(&written_into(&rust, room), &counted(written, out), || {
-        Question::new("mrrm into a buffer", bytes, 0, Limit::Room(room))
+    let mut out = [NO_MODRM; 3];
+    ours::mrrm(bytes, 0, &mut out[1]);
+    let out = out.map(ours::Modrm::bytes).concat();
+    tally.note(&between_untouched(&rust), &out, || {
+        Question::new("mrrm between records", bytes, 0, Limit::None)
     });
 }
 
-/// The count and the buffer of a call that writes a record where there is room for all of it.
-fn written_into(record: &[u8], room: usize) -> Vec<u8> {
-    let mut buffer = vec![UNTOUCHED; room];
-    match buffer.get_mut(..record.len()) {
-        None => counted(0, buffer),
-        Some(front) => {
-            front.copy_from_slice(record);
-            counted(record.len(), buffer)
-        }
-    }
-}
-
-fn counted(written: usize, buffer: Vec<u8>) -> Vec<u8> {
-    [written.to_be_bytes().to_vec(), buffer].concat()
+fn between_untouched(record: &[u8]) -> Vec<u8> {
+    let untouched = vec![UNTOUCHED; record.len()];
+    [&untouched, record, &untouched].concat()
 }
 
 pub fn field_readers(tally: &mut Tally, field: u8) {

@@ -6,10 +6,10 @@
 //! |---|---|
 //! | 0, 1 | the budget |
 //! | 3 to 6 | the position |
-//! | 8 to 47 | the answer, the twenty bytes of `record` |
-//! | 49 on | the input's bytes, none for the empty input; then LF |
+//! | 8 to 71 | the answer, the first 32 bytes of `record` |
+//! | 73 on | the input's bytes, none for the empty input; then LF |
 //!
-//! Columns 2, 7 and 48 are spaces.
+//! Columns 2, 7 and 72 are spaces.
 
 use crate::compare::hex;
 use crate::oracle::{self, USUAL_BUDGET};
@@ -41,7 +41,7 @@ impl Case {
 
     /// The case and its answer as a line.
     pub fn line(&self) -> String {
-        let record = hex(&record::of(&self.answer()), "");
+        let record = hex(&record::of(&self.answer())[..record::STORED], "");
         let bytes = hex(&self.bytes, "");
         format!("{:02X} {:04X} {record} {bytes}\n", self.budget, self.at)
     }

@@ -9,7 +9,6 @@ use differential::oracle::USUAL_BUDGET;
 use differential::random::Random;
 
 const RANDOM_STRINGS: usize = 65_536;
-const LARGEST_ROOM: usize = 64;
 /// Rooms for one line, for several, for a page of the program `list`, and for all lines of an image.
 const PAGE_ROOMS: [usize; 7] = [85, 86, 100, 255, 1_000, 8_192, 85 * LONGEST_IMAGE];
 
@@ -102,13 +101,13 @@ pub fn own_types(seed: u64) -> Tally {
     tally
 }
 
-pub fn rooms() -> Tally {
-    over(LARGEST_ROOM + 1, |room, tally| {
-        for behind in cases::BEHIND_PREFIXES {
-            both::decode_into(tally, behind, room);
-            both::mrrm_into(tally, behind, room);
-        }
-    })
+pub fn between_records() -> Tally {
+    let mut tally = Tally::default();
+    for behind in cases::BEHIND_PREFIXES {
+        both::decode_between(&mut tally, behind);
+        both::mrrm_between(&mut tally, behind);
+    }
+    tally
 }
 
 pub fn lines() -> Tally {

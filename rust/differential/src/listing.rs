@@ -56,7 +56,7 @@ pub fn page(image: &[u8], at: usize, room: usize) -> Line {
 
 fn line_at(image: &[u8], at: usize) -> Line {
     let answer = oracle::decode(image, at, USUAL_BUDGET);
-    let (taken, words) = match answer.reading {
+    let (taken, words) = match answer.result {
         Ok(instruction) => (
             answer.taken,
             instruction_text(&instruction, at + answer.taken),

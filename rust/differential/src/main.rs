@@ -53,7 +53,7 @@ fn run(seed: u64) -> Tally {
         families::operand_size(),
     );
     family("the types of rust/mrc", families::own_types(seed));
-    family("buffers of 0 to 64 bytes", families::rooms());
+    family("a record between records", families::between_records());
     family(
         "every string of up to three bytes",
         families::short_strings(),

@@ -1,23 +1,23 @@
-//! The ModRM reader's answer as the ten bytes that `mrc_mrrm` writes.
+//! The ModRM reader's answer as the sixteen bytes that `mrc_mrrm` writes, words low byte first.
 //!
 //! | bytes | hold |
 //! |---|---|
 //! | 0 | 0, else the refusal's number |
 //! | 1 | the ModRM byte, or the refusal's byte |
-//! | 2, 3 | bytes taken, low byte first |
+//! | 2, 3 | bytes taken |
 //! | 4 | the register |
-//! | 5 | 1 Direct, 2 Indirect, 3 DisplacementByte, 4 DisplacementWord, 5 Register |
-//! | 6 | the addressing mode or the register |
-//! | 7 | 0 |
-//! | 8, 9 | offset or displacement, low byte first |
+//! | 8 | 1 Direct, 2 Indirect, 3 DisplacementByte, 4 DisplacementWord, 5 Register |
+//! | 9 | the register that mod and rm name |
+//! | 10 | the addressing mode |
+//! | 12, 13 | offset or displacement |
 //!
-//! Bytes 4 to 9 of a refusal are 0.
+//! The others are 0, and so are bytes 4 to 15 of a refusal.
 
 use crate::counted::Counted;
 use crate::refusal::Refusal;
 use mrc_decoder::{ModRegRM, RegisterOrMemory};
 
-pub const LENGTH: usize = 10;
+pub const LENGTH: usize = 16;
 pub type Record = [u8; LENGTH];
 
 pub fn read(bytes: &[u8], at: usize) -> Record {
@@ -37,29 +37,23 @@ fn read_counted(counted: &mut Counted) -> Result<(u8, ModRegRM), Refusal> {
 }
 
 fn refused(refusal: Refusal, taken: u8) -> Record {
-    [refusal.number, refusal.byte, taken, 0, 0, 0, 0, 0, 0, 0]
+    let mut record = [0; LENGTH];
+    record[..3].copy_from_slice(&[refusal.number, refusal.byte, taken]);
+    record
 }
 
 fn found(byte: u8, taken: u8, mrrm: &ModRegRM) -> Record {
-    let (kind, code, [low, high]) = match mrrm.register_or_memory {
-        RegisterOrMemory::Direct(offset) => (1, 0, offset.to_le_bytes()),
-        RegisterOrMemory::Indirect(mode) => (2, mode as u8, [0, 0]),
-        RegisterOrMemory::DisplacementByte(mode, value) => (3, mode as u8, [value as u8, 0]),
-        RegisterOrMemory::DisplacementWord(mode, value) => (4, mode as u8, value.to_le_bytes()),
-        RegisterOrMemory::Register(register) => (5, register as u8, [0, 0]),
+    let (kind, register, mode, [low, high]) = match mrrm.register_or_memory {
+        RegisterOrMemory::Direct(offset) => (1, 0, 0, offset.to_le_bytes()),
+        RegisterOrMemory::Indirect(mode) => (2, 0, mode as u8, [0, 0]),
+        RegisterOrMemory::DisplacementByte(mode, value) => (3, 0, mode as u8, [value as u8, 0]),
+        RegisterOrMemory::DisplacementWord(mode, value) => (4, 0, mode as u8, value.to_le_bytes()),
+        RegisterOrMemory::Register(register) => (5, register as u8, 0, [0, 0]),
     };
-    [
-        0,
-        byte,
-        taken,
-        0,
-        mrrm.register as u8,
-        kind,
-        code,
-        0,
-        low,
-        high,
-    ]
+    let mut record = [0; LENGTH];
+    record[1..5].copy_from_slice(&[byte, taken, 0, mrrm.register as u8]);
+    record[8..14].copy_from_slice(&[kind, register, mode, 0, low, high]);
+    record
 }
 
 #[cfg(test)]
@@ -68,12 +62,23 @@ mod tests {
 
     #[test]
     fn a_zero_displacement_is_kept() {
-        assert_eq!(read(&[0x47, 0x00], 0), [0, 0x47, 2, 0, 0, 3, 7, 0, 0, 0]);
+        assert_eq!(
+            read(&[0x47, 0x00], 0),
+            [0, 0x47, 2, 0, 0, 0, 0, 0, 3, 0, 7, 0, 0, 0, 0, 0]
+        );
+    }
+
+    #[test]
+    fn a_register_is_named() {
+        assert_eq!(
+            read(&[0xCA], 0),
+            [0, 0xCA, 1, 0, 1, 0, 0, 0, 5, 2, 0, 0, 0, 0, 0, 0]
+        );
     }
 
     #[test]
     fn no_byte_left_is_refusal_2_and_beyond_is_11() {
-        assert_eq!(read(&[], 0), [2, 0, 0, 0, 0, 0, 0, 0, 0, 0]);
-        assert_eq!(read(&[], 1), [11, 0, 0, 0, 0, 0, 0, 0, 0, 0]);
+        assert_eq!(read(&[], 0)[..4], [2, 0, 0, 0]);
+        assert_eq!(read(&[], 1)[..4], [11, 0, 0, 0]);
     }
 }

@@ -5,11 +5,11 @@ use crate::refusal::Refusal;
 use mrc_decoder::decode_instruction;
 use mrc_instruction::Instruction;
 
-/// The budget of the listing, and of every reading that names none.
+/// The budget of the listing, and of every case that names none.
 pub const USUAL_BUDGET: u8 = 15;
 
 pub struct Answer {
-    pub reading: Result<Instruction, Refusal>,
+    pub result: Result<Instruction, Refusal>,
     pub taken: usize,
     pub prefixes: usize,
 }
@@ -27,9 +27,9 @@ fn decode_within(bytes: &[u8], budget: usize) -> Answer {
         return refused(Refusal::too_many_prefixes(bytes[budget]), budget + 1);
     }
     let mut counted = Counted::new(bytes);
-    let reading = decode_instruction(&mut counted).map_err(Refusal::from);
+    let result = decode_instruction(&mut counted).map_err(Refusal::from);
     Answer {
-        reading,
+        result,
         taken: counted.taken,
         prefixes,
     }
@@ -38,7 +38,7 @@ fn decode_within(bytes: &[u8], budget: usize) -> Answer {
 /// A refusal whose bytes taken are all prefixes.
 fn refused(refusal: Refusal, prefixes: usize) -> Answer {
     Answer {
-        reading: Err(refusal),
+        result: Err(refusal),
         taken: prefixes,
         prefixes,
     }

@@ -1,18 +1,19 @@
-//! An answer as the twenty bytes that `mrc_decode` writes.
+//! An answer as the forty bytes that `mrc_decode` writes, words low byte first.
 //!
 //! | bytes | hold |
 //! |---|---|
 //! | 0 | 0 for an instruction, else the refusal's number |
 //! | 1 | the refusal's byte |
-//! | 2, 3 | bytes taken, low byte first |
-//! | 4, 5 | prefixes, low byte first |
-//! | 6 | the operation's place in operation.rs, REP and REPNE left out |
-//! | 7 | 0 no repeat, 1 Equal, 2 NotEqual |
-//! | 8 to 13 | the destination |
-//! | 14 to 19 | the source |
+//! | 2, 3 | bytes taken |
+//! | 4, 5 | prefixes |
+//! | 8 | the operation's number in operation.rs, REP and REPNE left out |
+//! | 9 | 0 no repeat, 1 Equal, 2 NotEqual |
+//! | 13 | the number of operands |
+//! | 16 to 23 | the destination |
+//! | 24 to 31 | the source |
 //!
-//! Bytes 6 to 19 of a refusal are 0. An operand's six bytes are its kind, segment or register, addressing mode, size, and a
-//! word, low byte first; a segment-and-offset has its segment in the second and third.
+//! The others are 0, and so are bytes 8 to 39 of a refusal. An operand's eight bytes are its kind, segment or register,
+//! addressing mode and size, a word, and the segment of a segment-and-offset.
 
 use crate::compare::hex;
 use crate::oracle::Answer;
@@ -22,9 +23,17 @@ use mrc_instruction::{
     OperandSize, Operation, Repeat, Segment,
 };
 
-pub const LENGTH: usize = 20;
+pub const LENGTH: usize = 40;
+/// The bytes before the third operand, which no instruction has.
+pub const STORED: usize = 32;
 pub type Record = [u8; LENGTH];
-type OperandBytes = [u8; 6];
+type OperandBytes = [u8; 8];
+
+pub const OPERATION: usize = 8;
+pub const REPEAT: usize = 9;
+pub const OPERANDS: usize = 13;
+pub const DESTINATION: usize = 16;
+pub const SOURCE: usize = 24;
 
 pub const DIRECT: u8 = 1;
 pub const INDIRECT: u8 = 2;
@@ -43,7 +52,7 @@ pub fn of(answer: &Answer) -> Record {
     let mut record = [0; LENGTH];
     record[2..4].copy_from_slice(&low_word(answer.taken));
     record[4..6].copy_from_slice(&low_word(answer.prefixes));
-    match &answer.reading {
+    match &answer.result {
         Ok(instruction) => write_instruction(instruction, &mut record),
         Err(Refusal { number, byte }) => record[..2].copy_from_slice(&[*number, *byte]),
     }
@@ -53,33 +62,41 @@ pub fn of(answer: &Answer) -> Record {
 /// An answer's counts and number as `mrc_step` gives them: taken, 65,536 times the prefixes, and 2^32 times the refusal's
 /// number.
 pub fn step(answer: &Answer) -> u64 {
-    let number = match answer.reading {
+    let number = match answer.result {
         Ok(_) => 0,
         Err(refusal) => u64::from(refusal.number),
     };
     answer.taken as u64 + ((answer.prefixes as u64) << 16) + (number << 32)
 }
 
-/// What `spaced` has in its columns: refusal, byte, taken, prefixes, operation, repeat, destination, source.
-pub const HEADING: &str = "no by tak. pre. op re destination  source";
+/// What `spaced` has in its columns: refusal, byte, taken, prefixes, what is reserved, operation, repeat, what is reserved, the
+/// number of operands, what is reserved, destination, source, third operand.
+pub const HEADING: &str =
+    "no by tak. pre.      op re        n       destination      source           third";
 
 /// The record with a space between its fields.
 pub fn spaced(record: &[u8]) -> String {
-    let fields = [0..1, 1..2, 2..4, 4..6, 6..7, 7..8, 8..14, 14..20];
-    fields.map(|field| hex(&record[field], "")).join(" ")
+    let ends = [1, 2, 4, 6, 8, 9, 10, 13, 14, 16, 24, 32, 40];
+    let starts = [0].into_iter().chain(ends);
+    let fields = starts
+        .zip(ends)
+        .map(|(start, end)| hex(&record[start..end], ""));
+    fields.collect::<Vec<String>>().join(" ")
 }
 
 fn write_instruction(instruction: &Instruction, record: &mut Record) {
-    record[6] = operation_code(instruction.operation);
-    record[7] = repeat_code(instruction.repeat);
+    record[OPERATION] = operation_code(instruction.operation);
+    record[REPEAT] = repeat_code(instruction.repeat);
     match &instruction.operands {
         OperandSet::None => {}
         OperandSet::Destination(destination) => {
-            record[8..14].copy_from_slice(&operand_bytes(destination));
+            record[OPERANDS] = 1;
+            record[DESTINATION..SOURCE].copy_from_slice(&operand_bytes(destination));
         }
         OperandSet::DestinationAndSource(destination, source) => {
-            record[8..14].copy_from_slice(&operand_bytes(destination));
-            record[14..20].copy_from_slice(&operand_bytes(source));
+            record[OPERANDS] = 2;
+            record[DESTINATION..SOURCE].copy_from_slice(&operand_bytes(destination));
+            record[SOURCE..STORED].copy_from_slice(&operand_bytes(source));
         }
     }
 }
@@ -104,18 +121,21 @@ fn operand_bytes(operand: &Operand) -> OperandBytes {
     match *operand {
         Operand::Direct(segment, offset, size) => {
             let [low, high] = offset.to_le_bytes();
-            [DIRECT, segment as u8, 0, size as u8, low, high]
+            [DIRECT, segment as u8, 0, size as u8, low, high, 0, 0]
         }
         Operand::Indirect(segment, mode, displacement, size) => {
             indirect_bytes(segment, mode, displacement, size)
         }
-        Operand::Register(register) => [REGISTER, register.0 as u8, 0, register.1 as u8, 0, 0],
-        Operand::Segment(segment) => [SEGMENT, segment as u8, 0, 0, 0, 0],
-        Operand::Immediate(Immediate::Byte(value)) => [IMMEDIATE_BYTE, 0, 0, 0, value, 0],
+        Operand::Register(register) => {
+            let (code, size) = (register.0 as u8, register.1 as u8);
+            [REGISTER, code, 0, size, 0, 0, 0, 0]
+        }
+        Operand::Segment(segment) => [SEGMENT, segment as u8, 0, 0, 0, 0, 0, 0],
+        Operand::Immediate(Immediate::Byte(value)) => with_word(IMMEDIATE_BYTE, value.into()),
         Operand::Immediate(Immediate::Word(value)) => with_word(IMMEDIATE_WORD, value),
         Operand::Displacement(Displacement::None) => with_word(DISPLACEMENT_NONE, 0),
         Operand::Displacement(Displacement::Byte(value)) => {
-            [DISPLACEMENT_BYTE, 0, 0, 0, value as u8, 0]
+            with_word(DISPLACEMENT_BYTE, u16::from(value as u8))
         }
         Operand::Displacement(Displacement::Word(value)) => {
             with_word(DISPLACEMENT_WORD, value as u16)
@@ -135,18 +155,27 @@ fn indirect_bytes(
         Displacement::Byte(value) => (INDIRECT_BYTE, [value as u8, 0]),
         Displacement::Word(value) => (INDIRECT_WORD, value.to_le_bytes()),
     };
-    [kind, segment as u8, mode as u8, size as u8, low, high]
+    [kind, segment as u8, mode as u8, size as u8, low, high, 0, 0]
 }
 
 fn address_bytes(address: Address) -> OperandBytes {
     let [segment_low, segment_high] = address.segment.to_le_bytes();
     let [low, high] = address.offset.to_le_bytes();
-    [SEGMENT_AND_OFFSET, segment_low, segment_high, 0, low, high]
+    [
+        SEGMENT_AND_OFFSET,
+        0,
+        0,
+        0,
+        low,
+        high,
+        segment_low,
+        segment_high,
+    ]
 }
 
 fn with_word(kind: u8, word: u16) -> OperandBytes {
     let [low, high] = word.to_le_bytes();
-    [kind, 0, 0, 0, low, high]
+    [kind, 0, 0, 0, low, high, 0, 0]
 }
 
 fn low_word(count: usize) -> [u8; 2] {
@@ -168,11 +197,11 @@ mod tests {
     fn destination_stands_before_source() {
         assert_eq!(
             read(&[0x8B, 0x07]),
-            "00 00 0200 0000 00 00 050000010000 020307010000"
+            "00 00 0200 0000 0000 00 00 000000 02 0000 0500000100000000 0203070100000000 0000000000000000"
         );
         assert_eq!(
             read(&[0x89, 0x07]),
-            "00 00 0200 0000 00 00 020307010000 050000010000"
+            "00 00 0200 0000 0000 00 00 000000 02 0000 0203070100000000 0500000100000000 0000000000000000"
         );
     }
 
@@ -180,18 +209,18 @@ mod tests {
     fn displacements_keep_their_width() {
         assert_eq!(
             read(&[0xEB, 0x80]),
-            "00 00 0200 0000 39 00 0A0000008000 000000000000"
+            "00 00 0200 0000 0000 39 00 000000 01 0000 0A00000080000000 0000000000000000 0000000000000000"
         );
         assert_eq!(
             read(&[0xE9, 0x00, 0x80]),
-            "00 00 0300 0000 39 00 0B0000000080 000000000000"
+            "00 00 0300 0000 0000 39 00 000000 01 0000 0B00000000800000 0000000000000000 0000000000000000"
         );
     }
 
     #[test]
     fn a_far_address_has_segment_and_offset() {
         let record = read(&[0x9A, 0x34, 0x12, 0x78, 0x56]);
-        assert_eq!(record, "00 00 0500 0000 38 00 0C7856003412 000000000000");
+        assert_eq!(record, "00 00 0500 0000 0000 38 00 000000 01 0000 0C00000034127856 0000000000000000 0000000000000000");
     }
 
     #[test]
@@ -212,7 +241,7 @@ mod tests {
     fn a_refusal_has_its_number_byte_and_counts() {
         assert_eq!(
             read(&[0x26, 0xA4]),
-            "09 26 0200 0100 00 00 000000000000 000000000000"
+            "09 26 0200 0100 0000 00 00 000000 00 0000 0000000000000000 0000000000000000 0000000000000000"
         );
     }
 }

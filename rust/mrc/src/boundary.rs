@@ -1,32 +1,84 @@
 //! The functions that `crates/mrc_c` exports, wrapped so that no caller can break their boundary. include/mrc.h says what
-//! each answers and which bytes it writes.
+//! each answers and what it writes.
 #![allow(unsafe_code)]
 
-/// The bytes that `decode` writes.
-pub const DECODE_RECORD: usize = 20;
-/// The bytes that `mrrm` writes.
-pub const MRRM_RECORD: usize = 10;
+use std::mem::size_of;
+
 /// What `operand_size` answers for an operand without a size.
 pub const NO_SIZE: u8 = 2;
 
-/// A lent slice passes as its pointer and its length.
+/// An operand's fields: `struct mrc_operand` of include/mrc.h, which says what each is.
+#[derive(Clone, Copy, Debug, Default, PartialEq, Eq, Hash)]
+#[repr(C)]
+pub struct Operand {
+    pub kind: u8,
+    pub named: u8,
+    pub mode: u8,
+    pub size: u8,
+    pub value: u16,
+    pub far_segment: u16,
+}
+
+/// The fields of a decode's answer: `struct mrc_record`.
+#[derive(Clone, Copy, Debug, Default, PartialEq, Eq, Hash)]
+#[repr(C, align(8))]
+pub struct Record {
+    pub refusal: u8,
+    pub byte: u8,
+    pub taken: u16,
+    pub prefixes: u16,
+    pub reserved: u16,
+    pub operation: u8,
+    pub repeat: u8,
+    pub reach: u8,
+    pub kept: u8,
+    pub written: u8,
+    pub operands: u8,
+    pub reserved_2: [u8; 2],
+    pub operand: [Operand; 3],
+}
+
+/// The fields of the ModRM reader's answer: `struct mrc_modrm`.
+#[derive(Clone, Copy, Debug, Default, PartialEq, Eq, Hash)]
+#[repr(C, align(8))]
+pub struct Modrm {
+    pub refusal: u8,
+    pub byte: u8,
+    pub taken: u16,
+    pub register: u8,
+    pub reserved: [u8; 3],
+    pub operand: Operand,
+}
+
+impl Record {
+    /// The bytes of the record, as they stand in memory.
+    pub fn bytes(self) -> [u8; size_of::<Self>()] {
+        // SAFETY: every byte of a record is of a field that is a number.
+        unsafe { std::mem::transmute(self) }
+    }
+}
+
+impl Modrm {
+    /// The bytes of the record, as they stand in memory.
+    pub fn bytes(self) -> [u8; size_of::<Self>()] {
+        // SAFETY: as in `Record::bytes`.
+        unsafe { std::mem::transmute(self) }
+    }
+}
+
+/// A lent slice passes as its pointer and its length, a record as its pointer.
 mod exported {
+    use super::{Modrm, Record};
+
     extern "C" {
         pub fn mrc_decode(
             bytes: *const u8,
             length: usize,
             position: usize,
             budget: u8,
-            out: *mut u8,
-            room: usize,
-        ) -> usize;
-        pub fn mrc_mrrm(
-            bytes: *const u8,
-            length: usize,
-            position: usize,
-            out: *mut u8,
-            room: usize,
-        ) -> usize;
+            record: *mut Record,
+        );
+        pub fn mrc_mrrm(bytes: *const u8, length: usize, position: usize, record: *mut Modrm);
         pub fn mrc_register(field: u8) -> u32;
         pub fn mrc_segment(field: u8) -> u32;
         pub fn mrc_addressing(field: u8) -> u32;
@@ -50,17 +102,16 @@ mod exported {
 }
 
 #[inline]
-pub fn decode(bytes: &[u8], position: usize, budget: u8, out: &mut [u8]) -> usize {
-    let (input, room) = (bytes.as_ptr(), out.len());
-    // SAFETY: both slices are valid for their lengths, and `out` is lent to this call alone.
-    unsafe { exported::mrc_decode(input, bytes.len(), position, budget, out.as_mut_ptr(), room) }
+pub fn decode(bytes: &[u8], position: usize, budget: u8, record: &mut Record) {
+    // SAFETY: the slice is valid for its length, and `record`, which has the size and the alignment of five machine words of
+    // which any is a value, is lent to this call alone.
+    unsafe { exported::mrc_decode(bytes.as_ptr(), bytes.len(), position, budget, record) }
 }
 
 #[inline]
-pub fn mrrm(bytes: &[u8], position: usize, out: &mut [u8]) -> usize {
-    let (input, room) = (bytes.as_ptr(), out.len());
-    // SAFETY: as in `decode`.
-    unsafe { exported::mrc_mrrm(input, bytes.len(), position, out.as_mut_ptr(), room) }
+pub fn mrrm(bytes: &[u8], position: usize, record: &mut Modrm) {
+    // SAFETY: as in `decode`, with two machine words.
+    unsafe { exported::mrc_mrrm(bytes.as_ptr(), bytes.len(), position, record) }
 }
 
 #[inline]
@@ -90,7 +141,7 @@ pub fn operand_size(kind: u8, size: u8) -> u8 {
 #[inline]
 pub fn line(image: &[u8], position: usize, out: &mut [u8]) -> u64 {
     let (input, room) = (image.as_ptr(), out.len());
-    // SAFETY: as in `decode`.
+    // SAFETY: both slices are valid for their lengths, and `out` is lent to this call alone.
     unsafe { exported::mrc_line(input, image.len(), position, out.as_mut_ptr(), room) }
 }
 
@@ -98,7 +149,7 @@ pub fn line(image: &[u8], position: usize, out: &mut [u8]) -> u64 {
 #[inline]
 pub fn page(image: &[u8], position: usize, out: &mut [u8]) -> u64 {
     let (input, room) = (image.as_ptr(), out.len());
-    // SAFETY: as in `decode`.
+    // SAFETY: as in `line`.
     unsafe { exported::mrc_page(input, image.len(), position, out.as_mut_ptr(), room) }
 }
 

@@ -6,12 +6,14 @@ macro_rules! coded {
         $access enum $name { $($(#[$of])* $variant),* }
 
         impl $name {
+            #[allow(dead_code)]
             pub(crate) const ALL: &'static [Self] = &[$(Self::$variant),*];
 
+            #[inline]
             pub(crate) fn from_code(code: u8) -> Self {
-                match Self::ALL.get(usize::from(code)) {
-                    Some(variant) => *variant,
-                    None => panic!("no {} has the code {code}", stringify!($name)),
+                match code {
+                    $(_ if code == Self::$variant as u8 => Self::$variant,)*
+                    _ => panic!("no {} has the code {code}", stringify!($name)),
                 }
             }
         }

@@ -15,6 +15,7 @@ mod mrrm;
 mod operand;
 mod operation;
 mod page;
+mod record;
 mod register;
 mod stream;
 
@@ -28,5 +29,6 @@ pub use mrrm::{read_mrrm, ModRegRM, MrrmAnswer, RegisterOrMemory};
 pub use operand::{AddressingMode, Displacement, Immediate, Operand, OperandSize};
 pub use operation::Operation;
 pub use page::{page, Page};
+pub use record::{record_at, Record};
 pub use register::{RegisterEncoding, Segment, SizedRegisterEncoding};
 pub use stream::{decode_instruction, LARGEST_BUDGET};

@@ -57,32 +57,32 @@ pub struct MrrmAnswer {
 /// # mrc::Result::Ok(())
 /// ```
 pub fn read_mrrm(bytes: &[u8], position: usize) -> MrrmAnswer {
-    let mut record = [0; boundary::MRRM_RECORD];
+    let mut record = boundary::Modrm::default();
     boundary::mrrm(bytes, position, &mut record);
     MrrmAnswer {
-        result: reading(&record),
-        taken: usize::from(u16::from_le_bytes([record[2], record[3]])),
+        result: result_of(&record),
+        taken: usize::from(record.taken),
     }
 }
 
-fn reading(record: &[u8; boundary::MRRM_RECORD]) -> Result<(ModRegRM, u8)> {
-    if record[0] != 0 {
-        return Err(DecodeError::from_number(record[0], record[1]));
+fn result_of(record: &boundary::Modrm) -> Result<(ModRegRM, u8)> {
+    if record.refusal != 0 {
+        return Err(DecodeError::from_number(record.refusal, record.byte));
     }
-    let register = RegisterEncoding::from_code(record[4]);
-    let mrrm = ModRegRM::new(register, register_or_memory(record));
-    Ok((mrrm, record[1]))
+    let register = RegisterEncoding::from_code(record.register);
+    let mrrm = ModRegRM::new(register, register_or_memory(&record.operand));
+    Ok((mrrm, record.byte))
 }
 
-fn register_or_memory(record: &[u8; boundary::MRRM_RECORD]) -> RegisterOrMemory {
-    let mode = || AddressingMode::from_code(record[6]);
-    let word = u16::from_le_bytes([record[8], record[9]]);
-    match record[5] {
-        1 => RegisterOrMemory::Direct(word),
+fn register_or_memory(named: &boundary::Operand) -> RegisterOrMemory {
+    let mode = || AddressingMode::from_code(named.mode);
+    let value = named.value;
+    match named.kind {
+        1 => RegisterOrMemory::Direct(value),
         2 => RegisterOrMemory::Indirect(mode()),
-        3 => RegisterOrMemory::DisplacementByte(mode(), record[8] as i8),
-        4 => RegisterOrMemory::DisplacementWord(mode(), word as i16),
-        5 => RegisterOrMemory::Register(RegisterEncoding::from_code(record[6])),
+        3 => RegisterOrMemory::DisplacementByte(mode(), value as i8),
+        4 => RegisterOrMemory::DisplacementWord(mode(), value as i16),
+        5 => RegisterOrMemory::Register(RegisterEncoding::from_code(named.named)),
         kind => panic!("no register or memory has the code {kind}"),
     }
 }

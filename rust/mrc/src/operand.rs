@@ -73,7 +73,7 @@ pub enum Operand {
 }
 
 coded! {
-    /// What the first of an operand's six bytes says.
+    /// What an operand is, by the first of its fields.
     pub(crate) enum Kind {
         Absent,
         Direct,

@@ -21,23 +21,19 @@ const MOST_TAKEN: usize = LARGEST_BUDGET as usize + 6;
 pub fn decode_instruction(it: &mut impl Iterator<Item = u8>) -> Result<Instruction> {
     let mut bytes = [0; MOST_TAKEN];
     let (mut taken, mut prefixes) = (0, 0);
-    while prefixes <= usize::from(LARGEST_BUDGET) {
+    for byte in it {
+        bytes[taken] = byte;
+        taken += 1;
         match front_of(&bytes[prefixes..taken]) {
-            Front::Prefix => prefixes += 1,
-            Front::Whole => break,
-            Front::CutShort => match it.next() {
-                Some(byte) => {
-                    bytes[taken] = byte;
-                    taken += 1;
-                }
-                None => break,
-            },
+            Front::Prefix if prefixes < usize::from(LARGEST_BUDGET) => prefixes += 1,
+            Front::Prefix | Front::Whole => break,
+            Front::CutShort => {}
         }
     }
     decode_at(&bytes[..taken], 0, LARGEST_BUDGET).result
 }
 
-/// What stands at the front of some bytes.
+/// What stands at the front of some bytes, of which there is one at least.
 enum Front {
     Prefix,
     /// An answer that no further byte changes.
@@ -46,14 +42,13 @@ enum Front {
 }
 
 const PREFIX: u8 = DecodeError::TooManyPrefixes(0).number();
-const NO_OPCODE: u8 = DecodeError::EndOfInput.number();
 const NO_MORE: u8 = DecodeError::CouldNotReadExtraBytes.number();
 
 /// With a budget of 0 a prefix is one too many.
 fn front_of(bytes: &[u8]) -> Front {
     match (boundary::step(bytes, 0, 0) >> 32) as u8 {
         PREFIX => Front::Prefix,
-        NO_OPCODE | NO_MORE => Front::CutShort,
+        NO_MORE => Front::CutShort,
         _ => Front::Whole,
     }
 }

@@ -1,9 +1,11 @@
 //! Inputs at the ends of what can be asked: nothing lent, lengths beyond 2^32, and the largest positions.
 
-use mrc::{boundary, decode_at, line, page, read_mrrm, DecodeError, Operation, LONGEST_LINE};
+use mrc::{
+    boundary, decode_at, line, page, read_mrrm, record_at, DecodeError, Operation, LONGEST_LINE,
+};
 use std::alloc::{alloc_zeroed, Layout};
 
-/// Taken modulo 2^32 it has no room for a record.
+/// Taken modulo 2^32 it has no room for a line.
 const OVER_FOUR_GIB: usize = (1 << 32) + 5;
 
 /// That many zeros, of which only those that are touched need memory; none where the system gives no such range.
@@ -21,8 +23,12 @@ fn over_four_gib() -> Option<Vec<u8>> {
 
 #[test]
 fn nothing_lent() {
-    assert_eq!(boundary::decode(&[], 0, 255, &mut []), 0);
-    assert_eq!(boundary::mrrm(&[], 0, &mut []), 0);
+    assert_eq!(
+        record_at(&[], 0, 255).refusal(),
+        Some(DecodeError::EndOfInput)
+    );
+    let refusal = DecodeError::CouldNotReadExtraBytes;
+    assert_eq!(read_mrrm(&[], 0).result, Err(refusal));
     assert_eq!(boundary::step(&[], 0, 255), 1 << 32);
     assert_eq!(boundary::step(&[], 1, 255), 11 << 32);
     assert_eq!(line(&[], 0, &mut []), Err(DecodeError::EndOfInput));
@@ -91,10 +97,6 @@ fn is_too_long(image: &[u8]) {
 #[test]
 fn a_buffer_of_more_than_four_gib() {
     if let Some(mut out) = over_four_gib() {
-        let written = boundary::decode(&[0x60], 0, 15, &mut out);
-        assert_eq!((written, &out[..4]), (20, &[6, 0x60, 1, 0][..]));
-        let written = boundary::mrrm(&[0xC7], 0, &mut out);
-        assert_eq!((written, &out[..4]), (10, &[0, 0xC7, 1, 0][..]));
         let written = line(&[0x90], 0, &mut out).expect("a line with much room");
         let expected = b"0000  90                     NOP\n";
         assert_eq!(&out[..written.length], expected);

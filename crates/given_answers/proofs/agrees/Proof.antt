@@ -1,4 +1,4 @@
--- Places stay below 400,600, and an input has at most as many bytes as its buffer.
+-- Positions stay below 460,600, and an input has at most as many bytes as its buffer.
 -- Assumes nothing.
 use mathlib.Core.Path.{sym}
 use lib.Seq.{length-take-le}
@@ -45,14 +45,11 @@ read-input-requires c κs = search needs
 array-share-prefix-input : tie.Need-array-share-prefix-input
 array-share-prefix-input c = search needs
 
-slice-aggregate-decode-instruction : tie.Need-slice-aggregate-decode-instruction
-slice-aggregate-decode-instruction c = sym (length-take-le _ _ (search needs))
+slice-aggregate-mrc-decode : tie.Need-slice-aggregate-mrc-decode
+slice-aggregate-mrc-decode c = sym (length-take-le _ _ (search needs))
 
-decode-instruction-requires : tie.Need-decode-instruction-requires
-decode-instruction-requires c κs = search needs
-
-record-of-requires : tie.Need-record-of-requires
-record-of-requires c κs = search needs
+mrc-decode-requires : tie.Need-mrc-decode-requires
+mrc-decode-requires c κs = search needs
 
 add-same-record : tie.Need-add-same-record
 add-same-record c = search needs
@@ -80,9 +77,8 @@ agrees-spec =
     slice-aggregate-read-input
     read-input-requires
     array-share-prefix-input
-    slice-aggregate-decode-instruction
-    decode-instruction-requires
-    record-of-requires
+    slice-aggregate-mrc-decode
+    mrc-decode-requires
     add-same-record
     same-record-requires
     returns)

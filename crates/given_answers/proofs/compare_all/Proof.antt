@@ -1,4 +1,4 @@
--- Each line moves the place on, and counts one.
+-- Each line moves the position on, and counts one.
 -- Assumes nothing.
 use mathlib.Core.Path.{refl}
 use mathlib.Core.Logic.{⊎-elim}

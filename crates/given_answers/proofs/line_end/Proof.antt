@@ -1,4 +1,4 @@
--- The place is between the start and the length.
+-- The position is between the start and the length.
 -- Assumes nothing.
 use Prim.Native.Nat.{_≤_, _-_}
 use native.Mathlib.Omega.{arith}

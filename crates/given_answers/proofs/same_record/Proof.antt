@@ -1,4 +1,4 @@
--- The place is at most 20.
+-- At most 32 bytes are compared.
 -- Assumes nothing.
 use Prim.Native.Nat.{_≤_, _-_}
 use native.Mathlib.Omega.{arith}
@@ -6,16 +6,22 @@ use Rattle.given_answers.proofs.same_record.Statement.{statement}
 use Rattle.given_answers.proofs.same_record.Tie as tie
 
 abbrev Inv-loop : tie.InvT-loop
-Inv-loop s at «record» i₀ i = i ≤ 20
+Inv-loop s at «record» i₀ word₀ i word = i ≤ 32
 
 abbrev μ-loop : tie.MeasureT-loop
-μ-loop s at «record» i₀ i = 20 - i
+μ-loop s at «record» i₀ word₀ i word = 32 - i
 
 loop-holds : tie.Need-loop-holds Inv-loop μ-loop
 loop-holds c = omega arith
 
-array-read-if1 : tie.Need-array-read-if1 Inv-loop μ-loop
-array-read-if1 c = omega arith
+mul-word : tie.Need-mul-word Inv-loop μ-loop
+mul-word c = omega arith
+
+array-read-word : tie.Need-array-read-word Inv-loop μ-loop
+array-read-word c = omega arith
+
+cast-if2 : tie.Need-cast-if2 Inv-loop μ-loop
+cast-if2 c = omega arith
 
 mul-hex-at : tie.Need-mul-hex-at Inv-loop μ-loop
 mul-hex-at c = omega arith
@@ -38,6 +44,9 @@ loop-less c = omega arith
 loop-again : tie.Need-loop-again Inv-loop μ-loop
 loop-again c = omega arith
 
+array-read-result : tie.Need-array-read-result Inv-loop μ-loop
+array-read-result c = omega arith
+
 returns-2 : tie.Need-returns-2 Inv-loop μ-loop
 returns-2 c = omega arith
 
@@ -48,7 +57,9 @@ same-record-spec =
     Inv-loop
     μ-loop
     loop-holds
-    array-read-if1
+    mul-word
+    array-read-word
+    cast-if2
     mul-hex-at
     add-hex-at
     hex-at-requires
@@ -56,4 +67,5 @@ same-record-spec =
     add-i
     loop-less
     loop-again
+    array-read-result
     returns-2)

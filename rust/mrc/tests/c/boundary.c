@@ -14,40 +14,129 @@ static void expect(const char *what, uint64_t answer, uint64_t expected)
     }
 }
 
-/* 26 8B 47 FE is MOV AX, WORD ES:[BX-02]. */
+/* Where the fields stand, of which the library knows as machine words alone. */
+static void layout(void)
+{
+    expect("bytes of an operand", sizeof(struct mrc_operand), 8);
+    expect("kind", offsetof(struct mrc_operand, kind), 0);
+    expect("named", offsetof(struct mrc_operand, named), 1);
+    expect("mode", offsetof(struct mrc_operand, mode), 2);
+    expect("size", offsetof(struct mrc_operand, size), 3);
+    expect("value", offsetof(struct mrc_operand, value), 4);
+    expect("far segment", offsetof(struct mrc_operand, far_segment), 6);
+    expect("bytes of a record", sizeof(struct mrc_record), 40);
+    expect("refusal", offsetof(struct mrc_record, refusal), 0);
+    expect("byte", offsetof(struct mrc_record, byte), 1);
+    expect("taken", offsetof(struct mrc_record, taken), 2);
+    expect("prefixes", offsetof(struct mrc_record, prefixes), 4);
+    expect("reserved", offsetof(struct mrc_record, reserved), 6);
+    expect("operation", offsetof(struct mrc_record, operation), 8);
+    expect("repeat", offsetof(struct mrc_record, repeat), 9);
+    expect("reach", offsetof(struct mrc_record, reach), 10);
+    expect("kept", offsetof(struct mrc_record, kept), 11);
+    expect("written", offsetof(struct mrc_record, written), 12);
+    expect("operands", offsetof(struct mrc_record, operands), 13);
+    expect("reserved 2", offsetof(struct mrc_record, reserved_2), 14);
+    expect("destination", offsetof(struct mrc_record, operand[MRC_DESTINATION]), 16);
+    expect("source", offsetof(struct mrc_record, operand[MRC_SOURCE]), 24);
+    expect("third", offsetof(struct mrc_record, operand[MRC_THIRD]), 32);
+    expect("bytes of a ModRM", sizeof(struct mrc_modrm), 16);
+    expect("refusal of a ModRM", offsetof(struct mrc_modrm, refusal), 0);
+    expect("byte of a ModRM", offsetof(struct mrc_modrm, byte), 1);
+    expect("taken by a ModRM", offsetof(struct mrc_modrm, taken), 2);
+    expect("register of a ModRM", offsetof(struct mrc_modrm, register_code), 4);
+    expect("reserved in a ModRM", offsetof(struct mrc_modrm, reserved), 5);
+    expect("operand of a ModRM", offsetof(struct mrc_modrm, operand), 8);
+    struct { uint8_t first; struct mrc_record record; struct mrc_modrm modrm; } aligned;
+    expect("alignment of a record", (uintptr_t)&aligned.record % 8, 0);
+    expect("alignment of a ModRM", (uintptr_t)&aligned.modrm % 8, 0);
+}
+
+static void same(const char *what, struct mrc_operand operand, struct mrc_operand expected)
+{
+    expect(what, (uint64_t)memcmp(&operand, &expected, sizeof operand), 0);
+}
+
+static const struct mrc_operand absent;
+
+/* Every byte of the record is written, whatever it held. */
+static struct mrc_record decoded(const uint8_t *bytes, size_t length, uint8_t budget)
+{
+    struct mrc_record record;
+    memset(&record, 0xA5, sizeof record);
+    mrc_decode(bytes, length, 0, budget, &record);
+    expect("what is reserved", record.reserved, 0);
+    expect("reach", record.reach, 0);
+    expect("kept", record.kept, 0);
+    expect("written", record.written, 0);
+    expect("what is reserved", record.reserved_2[0] + record.reserved_2[1], 0);
+    same("third operand", record.operand[MRC_THIRD], absent);
+    return record;
+}
+
+/* 26 8B 47 FE is MOV AX, WORD ES:[BX-02], and 26 89 47 FE has its operands the other way round. */
 static void decode(void)
 {
-    const uint8_t bytes[] = {0x26, 0x8B, 0x47, 0xFE};
-    uint8_t out[MRC_DECODE_RECORD];
-    expect("bytes of a decode", mrc_decode(bytes, sizeof bytes, 0, 15, out, sizeof out), MRC_DECODE_RECORD);
-    expect("refusal", out[MRC_AT_REFUSAL], MRC_NOT_REFUSED);
-    expect("taken", out[MRC_AT_TAKEN], 4);
-    expect("prefixes", out[MRC_AT_PREFIXES], 1);
-    expect("operation", out[MRC_AT_OPERATION], MRC_OP_MOV);
-    expect("repeat", out[MRC_AT_REPEAT], 0);
-    const uint8_t ax[] = {MRC_REGISTER, MRC_AL_AX, 0, MRC_WORD, 0, 0};
-    expect("destination", (uint64_t)memcmp(out + MRC_AT_DESTINATION, ax, sizeof ax), 0);
-    const uint8_t memory[] = {MRC_INDIRECT_BYTE, MRC_ES, MRC_BX, MRC_WORD, 0xFE, 0};
-    expect("source", (uint64_t)memcmp(out + MRC_AT_SOURCE, memory, sizeof memory), 0);
+    const uint8_t load[] = {0x26, 0x8B, 0x47, 0xFE};
+    const struct mrc_operand ax = {MRC_REGISTER, MRC_AL_AX, 0, MRC_WORD, 0, 0};
+    const struct mrc_operand memory = {MRC_INDIRECT_BYTE, MRC_ES, MRC_BX, MRC_WORD, 0xFE, 0};
+    struct mrc_record record = decoded(load, sizeof load, 15);
+    expect("refusal", record.refusal, MRC_NOT_REFUSED);
+    expect("byte", record.byte, 0);
+    expect("taken", record.taken, 4);
+    expect("prefixes", record.prefixes, 1);
+    expect("operation", record.operation, MRC_OP_MOV);
+    expect("repeat", record.repeat, 0);
+    expect("operands", record.operands, 2);
+    same("destination", record.operand[MRC_DESTINATION], ax);
+    same("source", record.operand[MRC_SOURCE], memory);
+    const uint8_t store[] = {0x26, 0x89, 0x47, 0xFE};
+    record = decoded(store, sizeof store, 15);
+    same("destination in memory", record.operand[MRC_DESTINATION], memory);
+    same("source in a register", record.operand[MRC_SOURCE], ax);
+}
+
+/* 9A 34 12 78 56 is CALL 5678:1234, and F2 A4 is REPNE MOVSB. */
+static void decode_one_and_none(void)
+{
+    const uint8_t call[] = {0x9A, 0x34, 0x12, 0x78, 0x56};
+    const struct mrc_operand far = {MRC_SEGMENT_AND_OFFSET, 0, 0, 0, 0x1234, 0x5678};
+    struct mrc_record record = decoded(call, sizeof call, 15);
+    expect("operation with one operand", record.operation, MRC_OP_CALL);
+    expect("one operand", record.operands, 1);
+    same("far address", record.operand[MRC_DESTINATION], far);
+    same("no source", record.operand[MRC_SOURCE], absent);
+    const uint8_t move[] = {0xF2, 0xA4};
+    record = decoded(move, sizeof move, 15);
+    expect("operation without operands", record.operation, MRC_OP_MOVSB);
+    expect("repeat while not equal", record.repeat, 2);
+    expect("no operand", record.operands, 0);
+    same("no destination", record.operand[MRC_DESTINATION], absent);
 }
 
 static void refused_decode(void)
 {
     const uint8_t bytes[] = {0xF3, 0x90};
-    uint8_t out[MRC_DECODE_RECORD];
-    mrc_decode(bytes, sizeof bytes, 0, 0, out, sizeof out);
-    expect("refusal", out[MRC_AT_REFUSAL], MRC_TOO_MANY_PREFIXES);
-    expect("its byte", out[MRC_AT_BYTE], 0xF3);
-    expect("bytes of a decode without room", mrc_decode(bytes, sizeof bytes, 0, 0, out, sizeof out - 1), 0);
+    struct mrc_record expected = {0};
+    expected.refusal = MRC_TOO_MANY_PREFIXES;
+    expected.byte = 0xF3;
+    expected.taken = 1;
+    expected.prefixes = 1;
+    struct mrc_record record = decoded(bytes, sizeof bytes, 0);
+    expect("refused decode", (uint64_t)memcmp(&record, &expected, sizeof record), 0);
 }
 
 static void mrrm(void)
 {
     const uint8_t bytes[] = {0x8F, 0x00, 0x80};
-    const uint8_t expected[] = {MRC_NOT_REFUSED, 0x8F, 3, 0, MRC_CL_CX, MRC_INDIRECT_WORD, MRC_BX, 0, 0x00, 0x80};
-    uint8_t out[MRC_MRRM_RECORD];
-    expect("bytes of a ModRM", mrc_mrrm(bytes, sizeof bytes, 0, out, sizeof out), MRC_MRRM_RECORD);
-    expect("ModRM", (uint64_t)memcmp(out, expected, sizeof expected), 0);
+    const struct mrc_modrm expected = {MRC_NOT_REFUSED, 0x8F, 3, MRC_CL_CX, {0}, {MRC_INDIRECT_WORD, 0, MRC_BX, 0, 0x8000, 0}};
+    struct mrc_modrm record;
+    memset(&record, 0xA5, sizeof record);
+    mrc_mrrm(bytes, sizeof bytes, 0, &record);
+    expect("ModRM", (uint64_t)memcmp(&record, &expected, sizeof expected), 0);
+    const struct mrc_modrm refused = {.refusal = MRC_COULD_NOT_READ_EXTRA_BYTES, .taken = 2};
+    mrc_mrrm(bytes, 2, 0, &record);
+    expect("refused ModRM", (uint64_t)memcmp(&record, &refused, sizeof refused), 0);
 }
 
 static void numbers(void)
@@ -96,15 +185,13 @@ static void page(void)
 /* A pointer whose length is 0 is not followed. */
 static void nothing_lent(void)
 {
-    uint8_t out[MRC_DECODE_RECORD];
-    expect("bytes of a decode of nothing", mrc_decode(NULL, 0, 0, 15, out, sizeof out), MRC_DECODE_RECORD);
-    expect("refusal of nothing", out[MRC_AT_REFUSAL], MRC_END_OF_INPUT);
-    mrc_decode(NULL, 0, SIZE_MAX, 15, out, sizeof out);
-    expect("refusal outside of nothing", out[MRC_AT_REFUSAL], MRC_OUTSIDE_INPUT);
-    expect("bytes of a ModRM of nothing", mrc_mrrm(NULL, 0, 0, out, sizeof out), MRC_MRRM_RECORD);
-    expect("refusal of no ModRM", out[MRC_AT_REFUSAL], MRC_COULD_NOT_READ_EXTRA_BYTES);
-    expect("decode into nothing", mrc_decode(NULL, 0, 0, 15, NULL, 0), 0);
-    expect("ModRM into nothing", mrc_mrrm(NULL, 0, 0, NULL, 0), 0);
+    expect("refusal of nothing", decoded(NULL, 0, 15).refusal, MRC_END_OF_INPUT);
+    struct mrc_record record;
+    mrc_decode(NULL, 0, SIZE_MAX, 15, &record);
+    expect("refusal outside of nothing", record.refusal, MRC_OUTSIDE_INPUT);
+    struct mrc_modrm modrm;
+    mrc_mrrm(NULL, 0, 0, &modrm);
+    expect("refusal of no ModRM", modrm.refusal, MRC_COULD_NOT_READ_EXTRA_BYTES);
     expect("step of nothing", mrc_step(NULL, 0, 0, 15) >> 32, MRC_END_OF_INPUT);
     expect("line of nothing", mrc_line_refusal(mrc_line(NULL, 0, 0, NULL, 0)), MRC_END_OF_INPUT);
     const uint8_t nop[] = {0x90};
@@ -122,7 +209,9 @@ static void step(void)
 
 int main(void)
 {
+    layout();
     decode();
+    decode_one_and_none();
     refused_decode();
     mrrm();
     numbers();

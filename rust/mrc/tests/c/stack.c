@@ -17,10 +17,11 @@ enum { GUARD = 4096, PAINT = 0xA5, USUAL = 15, LARGEST = 255, LONGEST_RUN = LARG
 static uint8_t bytes[LONGEST_RUN + 6];
 static size_t length;
 static uint8_t budget;
+static struct mrc_record record;
 static uint8_t out[MRC_LONGEST_LINE];
 static uint8_t large[8192];
 
-static void decode(void) { mrc_decode(bytes, length, 0, budget, out, sizeof out); }
+static void decode(void) { mrc_decode(bytes, length, 0, budget, &record); }
 static void step(void) { mrc_step(bytes, length, 0, budget); }
 static void line(void) { mrc_line(bytes, length, 0, out, sizeof out); }
 static void line_without_room(void) { mrc_line(bytes, length, 0, out, 1); }

@@ -1,7 +1,6 @@
--- The record of the decode is written.
+-- The record of the decode is written; its counts are small.
 -- Assumes nothing.
-use mathlib.Core.Path.{ap, _∙_}
-use Rattle.mrc_c.specs.Record.{recordOf}
+use Rattle.mrc_c.proofs.Counts.{taken-small, prefixes-small}
 use borrow.Author.Needs.{needs}
 use Rattle.mrc_c.proofs.decode.mrc_decode.Statement.{statement}
 use Rattle.mrc_c.proofs.decode.mrc_decode.Tie as tie
@@ -10,27 +9,13 @@ decode-instruction-requires : tie.Need-decode-instruction-requires
 decode-instruction-requires c κs = tt
 
 record-of-requires : tie.Need-record-of-requires
-record-of-requires c κs = tt
-
-slice-aggregate-write-whole : tie.Need-slice-aggregate-write-whole
-slice-aggregate-write-whole c = search needs
-
-write-whole-requires : tie.Need-write-whole-requires
-write-whole-requires c κs = tt
-
-same-length : tie.Need-same-length
-same-length c = search needs
+record-of-requires c κs =
+    let a = c .before .before .args in
+    rw (c .decode-instruction .ensures)
+    (taken-small (a .s .now) (a .at) (a .budget) (search needs), prefixes-small (a .s .now) (a .at) (a .budget) (search needs))
 
 returns : tie.Need-returns
-returns c = rw (c .before .before .before .before .before .record-of .ensures ∙ ap recordOf (c .before .before .before .before .before .before .decode-instruction .ensures)) at (c .before .before .write-whole .ensures)
+returns c = rw (c .before .decode-instruction .ensures) at (c .record-of .ensures)
 
 pub mrc-decode-spec : {M : Type 1} → statement M
-mrc-decode-spec =
-    tie.close
-    (tie.spec
-    decode-instruction-requires
-    record-of-requires
-    slice-aggregate-write-whole
-    write-whole-requires
-    same-length
-    returns)
+mrc-decode-spec = tie.close (tie.spec decode-instruction-requires record-of-requires returns)

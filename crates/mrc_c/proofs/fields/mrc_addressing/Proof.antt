@@ -12,8 +12,8 @@ try-from-encoding-requires c κs = tt
 enum-known-mode : tie.Need-enum-known-mode
 enum-known-mode c = search needs
 
-addressing-code-requires : tie.Need-addressing-code-requires
-addressing-code-requires c κs = tt
+into-encoding-requires : tie.Need-into-encoding-requires
+into-encoding-requires c κs = tt
 
 cast-result : tie.Need-cast-result
 cast-result c = search needs
@@ -25,7 +25,7 @@ refusal-code-requires : tie.Need-refusal-code-requires
 refusal-code-requires c κs = tt
 
 returns : tie.Need-returns
-returns c = c .addressing-code .ensures ∙ ap addressingNumber (sym (c .before .before .mode .given .1) ∙ c .before .before .before .before .try-from-encoding .ensures .answer)
+returns c = c .into-encoding .ensures ∙ ap addressingNumber (sym (c .before .before .mode .given .1) ∙ c .before .before .before .before .try-from-encoding .ensures .answer)
 
 returns-2 : tie.Need-returns-2
 returns-2 c = c .refusal-code .ensures ∙ ap addressingNumber (sym (c .before .before .refusal .given .1) ∙ c .before .before .before .before .try-from-encoding .ensures .answer)
@@ -36,7 +36,7 @@ mrc-addressing-spec =
     (tie.spec
     try-from-encoding-requires
     enum-known-mode
-    addressing-code-requires
+    into-encoding-requires
     cast-result
     enum-known-refusal
     refusal-code-requires

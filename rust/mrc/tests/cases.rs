@@ -1,4 +1,4 @@
-//! The numbered readings, and those that are only run.
+//! The numbered cases, and those that are only run.
 
 use mrc::{
     decode_at, Address, AddressingMode, DecodeError, Displacement, Immediate, Instruction, Operand,
@@ -50,27 +50,27 @@ fn readings_1_to_3_have_no_opcode() {
 }
 
 #[test]
-fn reading_4_widens_with_zeros() {
+fn case_4_widens_with_zeros() {
     let immediate = Operand::Immediate(Immediate::Word(0x00FF));
     let add = two(Operation::ADD, AX, immediate);
     reads(&[0x83, 0xC0, 0xFF], add, 3, 0);
 }
 
 #[test]
-fn reading_5_has_no_operand_to_override() {
+fn case_5_has_no_operand_to_override() {
     let refusal = DecodeError::InvalidPrefix(0x26);
     refuses(&[0x26, 0xA4], BUDGET, refusal, 2, 1);
 }
 
 #[test]
-fn reading_6_keeps_the_first_override() {
+fn case_6_keeps_the_first_override() {
     let source = memory(Segment::ES, AddressingMode::Bx, Displacement::None);
     let mov = two(Operation::MOV, AX, source);
     reads(&[0x26, 0x2E, 0x8B, 0x07], mov, 4, 2);
 }
 
 #[test]
-fn reading_7_has_no_displacement() {
+fn case_7_has_no_displacement() {
     let source = memory(Segment::DS, AddressingMode::Bx, Displacement::None);
     reads(&[0x8B, 0x47, 0x00], two(Operation::MOV, AX, source), 3, 0);
 }
@@ -87,7 +87,7 @@ fn readings_8_to_10_are_refused_by_their_reg() {
 }
 
 #[test]
-fn reading_11_takes_six_bytes() {
+fn case_11_takes_six_bytes() {
     let bytes = [0x81, 0x80, 0x34, 0x12, 0x78, 0x56];
     let place = memory(
         Segment::DS,
@@ -101,13 +101,13 @@ fn reading_11_takes_six_bytes() {
 }
 
 #[test]
-fn reading_12_keeps_the_first_repeat() {
+fn case_12_keeps_the_first_repeat() {
     let movsb = Instruction::with_repeat(Repeat::NotEqual, Operation::MOVSB, OperandSet::None);
     reads(&[0xF2, 0xF3, 0xA4], movsb, 3, 2);
 }
 
 #[test]
-fn reading_13_is_over_its_budget() {
+fn case_13_is_over_its_budget() {
     let refusal = DecodeError::TooManyPrefixes(0xF3);
     refuses(&[0xF3, 0x90], 0, refusal, 1, 1);
 }
