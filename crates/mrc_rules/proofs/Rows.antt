@@ -53,8 +53,8 @@ arithmetic-named = by-list (ADD ∷ OR ∷ ADC ∷ SBB ∷ AND ∷ SUB ∷ XOR �
 shift-named : Named (byReg op.shifts) (λ byte. shift (regField byte))
 shift-named = by-list (ROL ∷ ROR ∷ RCL ∷ RCR ∷ SHL ∷ SHR ∷ SHL ∷ SAR ∷ []) SAR refl
 
-transfer-named : Named (byReg op.transfers) (λ byte. groupFEOperation (regField byte))
-transfer-named = by-list (INC ∷ DEC ∷ CALL ∷ CALL ∷ JMP ∷ JMP ∷ PUSH ∷ PUSH ∷ []) PUSH refl
+group-fe-named : Named (byReg op.groupFE) (λ byte. groupFEOperation (regField byte))
+group-fe-named = by-list (INC ∷ DEC ∷ CALL ∷ CALL ∷ JMP ∷ JMP ∷ PUSH ∷ PUSH ∷ []) PUSH refl
 
 -- the length of a ModRM and n bytes behind it, and that more are asked for before they are read
 module _ (size : OperandSize) (operand : Operand) (byte : ℕ) (l : List ℕ) (s : Modrm size operand byte l) (n : ℕ) where
@@ -217,7 +217,7 @@ row-along opcode (groupC6 ⦂ size) = modrm-immediate opcode size size (the MOV)
 row-along opcode (groupF6 ⦂ size) =
     after-modrm opcode (GroupF6 size) size _ (λ l k. omega arith) (λ operand byte l s. group-f6-along size operand byte l s (regField byte) refl)
 row-along opcode (groupFE ⦂ size) =
-    modrm-alone opcode (only (RM size)) (byReg op.transfers) size _ _ transfer-named (λ operand byte l s. ap OperandSet.Destination (s .by-rm))
+    modrm-alone opcode (only (RM size)) (byReg op.groupFE) size _ _ group-fe-named (λ operand byte l s. ap OperandSet.Destination (s .by-rm))
 row-along opcode (immediateToAccumulator o size) =
     after-immediate opcode (accountOf (immediateToAccumulator o size) .places) o size _ (λ i l e. ap (OperandSet.DestinationAndSource (acc size)) e)
 row-along opcode (onSegment o s) = record { operands = refl; operation = λ x. refl; whole = λ x. refl; told = λ x. refl }

@@ -24,8 +24,8 @@ shifts = some ROL ∷ some ROR ∷ some RCL ∷ some RCR ∷ some SHL ∷ some S
 abbrev pub groupF6 : List (Option Operation)
 groupF6 = some TEST ∷ none ∷ some NOT ∷ some NEG ∷ some MUL ∷ some IMUL ∷ some DIV ∷ some IDIV ∷ []
 
-abbrev pub transfers : List (Option Operation)
-transfers = some INC ∷ some DEC ∷ some CALL ∷ some CALL ∷ some JMP ∷ some JMP ∷ some PUSH ∷ some PUSH ∷ []
+abbrev pub groupFE : List (Option Operation)
+groupFE = some INC ∷ some DEC ∷ some CALL ∷ some CALL ∷ some JMP ∷ some JMP ∷ some PUSH ∷ some PUSH ∷ []
 
 unfoldable pub mnemonics : List Mnemonic
 mnemonics =
@@ -60,7 +60,7 @@ mnemonics =
     ++ (the LOOPNZ ∷ the LOOPZ ∷ the LOOP ∷ the JCXZ ∷ the IN ∷ the IN ∷ the OUT ∷ the OUT ∷ [])  -- E0
     ++ (the CALL ∷ the JMP ∷ the JMP ∷ the JMP ∷ the IN ∷ the IN ∷ the OUT ∷ the OUT ∷ [])  -- E8
     ++ (the LOCK ∷ the INT1 ∷ nothing ∷ nothing ∷ the HLT ∷ the CMC ∷ byReg groupF6 ∷ byReg groupF6 ∷ [])  -- F0
-    ++ (the CLC ∷ the STC ∷ the CLI ∷ the STI ∷ the CLD ∷ the STD ∷ byReg transfers ∷ byReg transfers ∷ [])  -- F8
+    ++ (the CLC ∷ the STC ∷ the CLI ∷ the STI ∷ the CLD ∷ the STD ∷ byReg groupFE ∷ byReg groupFE ∷ [])  -- F8
 
 -- the operation that an instruction's bytes name, from the opcode on
 abbrev pub nameAt : List ℕ → Mnemonic → Option Operation
