@@ -21,9 +21,9 @@ use Rattle.mrc_rules.specs.Forms.{Tail, Row, rest}
 use Rattle.mrc_rules.specs.Table.{rowOf}
 use Rattle.mrc_rules.specs.Prefixes.{isOverride, isRepeat, isPrefix, repeatOf}
 use Rattle.mrc_rules.specs.Decode.{decodeBy, decodeAt, rules}
-use Rattle.mrc_forms.specs.Answers.{afterOpcode, formRead, readBy}
+use Rattle.mrc_forms.specs.Answers.{formRead, readBy}
 use Rattle.mrc_decoder.specs.Prefixes.{Small, underOverride, withRepeat, tooMany, pastEnd}
-use Rattle.mrc_decoder.specs.Decode.{endOf, answerAt}
+use Rattle.mrc_decoder.specs.Decode.{afterOpcode, endOf, answerAt}
 use Rattle.mrc_decoder.proofs.Steps.{step-end, step-tail, step-over, override-prefix, repeat-prefix}
 use Rattle.mrc_decoder.proofs.Wrapping.{override-wraps, repeat-wraps}
 use Rattle.mrc_rules.proofs.Counting.{taken-there, prefixes-there}

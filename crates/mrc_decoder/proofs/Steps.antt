@@ -18,7 +18,7 @@ use Rattle.mrc_instruction.specs.Reader.{Outcome, got, stopped, takenBy}
 use Rattle.mrc_rules.specs.Forms.{Tail}
 use Rattle.mrc_rules.specs.Prefixes.{isOverride, isRepeat, isPrefix, runOf, tailOf, first, repeatOf, Result, reads, refuses, made}
 use Rattle.mrc_rules.specs.Decode.{Rules, answer, tail, resultOf, together, decodeBy}
-use Rattle.mrc_forms.specs.Answers.{alone}
+use Rattle.mrc_decoder.specs.Decode.{alone}
 use Rattle.mrc_decoder.specs.Prefixes.{refusalUnder, resultUnder, resultRepeated, wrapped, underOverrideBy, withRepeat, tooMany}
 use Rattle.mrc_rules.proofs.Striking.{override-no-repeat, repeat-no-override}
 

@@ -6,6 +6,7 @@ use mathlib.Core.Option.{some}
 use mathlib.Core.Bool.{true}
 use Prim.Native.Nat.{ℕ, suc, _<_}
 use native.Mathlib.Omega.{arith}
+use borrow.Author.Tests.{ne-eqb}
 use Rattle.mrc_instruction.specs.declared.errors.Refusal.{Refusal}
 use Rattle.mrc_instruction.specs.declared.register.Segment.{Segment}
 use Rattle.mrc_instruction.specs.declared.operand.Operand.{Operand}
@@ -22,19 +23,9 @@ use Rattle.mrc_decoder.proofs.Steps.{Turned, Stops, Wraps, step-overrid
 
 -- every refusal with a number below 9 is one that an override turns into its own
 turned : (e : Refusal) → numberOf e < 9 → Turned e
-turned Refusal.EndOfInput h = λ o. refl
-turned Refusal.CouldNotReadExtraBytes h = λ o. refl
-turned (Refusal.InvalidDataSizeEncoding b) h = λ o. refl
-turned (Refusal.InvalidIndirectMemoryEncoding b) h = λ o. refl
-turned (Refusal.InvalidModRegRMEncoding b) h = λ o. refl
-turned (Refusal.InvalidOpCode b) h = λ o. refl
-turned (Refusal.InvalidRegisterEncoding b) h = λ o. refl
-turned (Refusal.InvalidSegmentEncoding b) h = λ o. refl
-turned (Refusal.InvalidPrefix b) h = λ o. refl
-turned (Refusal.TooManyPrefixes b) h = absurd (omega arith)
-turned Refusal.OutsideInput h = λ o. refl
-turned Refusal.NoRoom h = λ o. refl
-turned Refusal.ImageTooLong h = λ o. refl
+turned e h =
+    let not-ten : (numberOf e ≡ 10 → ⊥) = λ q. omega (arith, q) in
+    λ o. rw (ne-eqb (numberOf e) 10 not-ten) refl
 
 -- every tail is meant
 unfoldable Any : Tail → Type 0

@@ -1,26 +1,17 @@
 -- Internal: what the forms owe the decoder.
 -- What a form's function answers: what its row reads from the position behind the opcode on, or, where the form has a ModRM, what is read behind
--- that. What is read is an answer with no prefix.
+-- that.
 use Prim.Native.Nat.{ℕ, _+_, _-_}
 use mathlib.Core.List.{List}
 use Rattle.mrc_instruction.specs.declared.operand.Operand.{Operand}
 use Rattle.mrc_instruction.specs.declared.operand.OperandSize.{OperandSize}
 use Rattle.mrc_instruction.specs.declared.instruction.Repeated.{Repeated}
-use Rattle.mrc_instruction.specs.Reader.{Outcome, more, readFrom}
+use Rattle.mrc_instruction.specs.Reader.{Outcome, readFrom}
 use Rattle.mrc_instruction.specs.Values.{Values, carrying, refusedWith}
 use Rattle.mrc_instruction.specs.Read.{answered}
-use Rattle.mrc_rules.specs.declared.Answer.{Answer}
 use Rattle.mrc_rules.specs.Forms.{Tail, Row, ModRMForm, rest, behind}
 use Rattle.mrc_rules.specs.Prefixes.{made}
 use Rattle.mrc_forms.specs.declared.answers.FormRead.{FormRead}
-
--- an answer with no prefix
-abbrev pub alone : Outcome Tail → Answer
-alone = answered (λ i n. Answer.Decoded (made i Repeated.None (i .operands)) n 0) (λ e n. Answer.Refused e n 0)
-
--- behind the opcode, whose byte is taken too
-abbrev pub afterOpcode : Outcome Tail → Answer
-afterOpcode o = alone (more o)
 
 -- read from a position on, with no prefix and the position behind the bytes taken
 abbrev pub formRead : ℕ → Outcome Tail → FormRead
