@@ -15,6 +15,7 @@ ghost use mathlib.Core.Path.{_≡_};
 ghost use Prim.Native.Nat.{_+_, _<_, _≤_, min};
 ghost use lib.ListN.{length};
 ghost use Rattle.mrc_names.specs.Names.{nameTable};
+ghost use Rattle.mrc_line.specs.Target.{offsets};
 ghost use Rattle.mrc_line.specs.Text.{Put};
 ghost use Rattle.mrc_line.specs.Line.{headText, repeatText, instructionText, dbText, bodyText, stepText, stepTaken, longest};
 
@@ -106,7 +107,7 @@ fn put_body(
     byte: u8,
     answer: Answer,
 ) -> usize
-    requires { ⌜ (at + 55 ≤ length (now buf)) × (now names ≡ nameTable) × (stepTaken answer < 65536) ⌝ }
+    requires { ⌜ (at + 55 ≤ length (now buf)) × (now names ≡ nameTable) × (stepTaken answer < offsets) ⌝ }
     ensures { λ r. ⌜ Put 55 (now (buf .entry)) at (bodyText start byte answer) (now (buf .exit)) r ⌝ }
 {
     match answer {
@@ -138,7 +139,7 @@ pub fn put_step(
     start: usize,
     answer: Answer,
 ) -> Written
-    requires { ⌜ (at + longest ≤ length (now buf)) × (now names ≡ nameTable) × (start < 65536) × (1 ≤ stepTaken answer) × (stepTaken answer < 65536) × (start + stepTaken answer ≤ length (now image)) ⌝ }
+    requires { ⌜ (at + longest ≤ length (now buf)) × (now names ≡ nameTable) × (start < offsets) × (1 ≤ stepTaken answer) × (stepTaken answer < offsets) × (start + stepTaken answer ≤ length (now image)) ⌝ }
     ensures { λ r. ⌜ Put longest (now (buf .entry)) at (stepText (now (image .entry)) start answer) (now (buf .exit)) (r .end) × (r .taken ≡ stepTaken answer) ⌝ }
 {
     let taken = step_taken(answer);
