@@ -46,7 +46,8 @@ enum mrc_refusal {
 #define MRC_WORDS __attribute__((aligned(8)))
 
 /* An operand. What its kind has no use for is 0. A byte displacement of 128 or more stands for itself less 256, a word
- * displacement of 32,768 or more for itself less 65,536. */
+ * displacement of 32,768 or more for itself less 65,536; that of MRC_OP_RET counts bytes of the stack, and a line prints
+ * its value as it is. */
 struct mrc_operand {
     uint8_t kind;         /* enum mrc_kind */
     uint8_t named;        /* enum mrc_segment_code of memory and of a segment register, enum mrc_register_code of a register */

@@ -20,13 +20,15 @@ use Rattle.mrc_instruction.specs.declared.operand.Operand.{Operand}
 use Rattle.mrc_instruction.specs.declared.instruction.OperandSet.{OperandSet}
 use Rattle.mrc_instruction.specs.declared.instruction.Repeat.{Repeat}
 use Rattle.mrc_instruction.specs.declared.instruction.Repeated.{Repeated}
+use Rattle.mrc_instruction.specs.declared.operation.Operation.{Operation}
 use Rattle.mrc_names.specs.Names.{nameOf}
 use Rattle.mrc_names.proofs.Rows.{short}
 use Rattle.mrc_rules.specs.declared.Answer.{Answer}
 use Rattle.mrc_rules.specs.Decode.{decodeAt}
 use Rattle.mrc_line.specs.Text.{bytes, hex4, pairs, padded, shown, fieldWidth}
-use Rattle.mrc_line.specs.Target.{targetOf}
-use Rattle.mrc_line.specs.Operands.{registerText, segmentText, modeText, sizeText, displacementText, immediateText, memoryText, operandText, besideText, operandsText}
+use Rattle.mrc_line.specs.declared.printed.Printed.{Printed}
+use Rattle.mrc_line.specs.Printed.{alone, beside}
+use Rattle.mrc_line.specs.Operands.{registerText, segmentText, modeText, sizeText, displacementText, immediateText, memoryText, printedText, operandText, operandsText}
 use Rattle.mrc_line.specs.Line.{headText, repeatText, instructionText, bodyText, stepTaken, stepText, lineText, longest, budget}
 use Rattle.mrc_line.proofs.Put.{pairs-length}
 
@@ -81,27 +83,27 @@ memory : (z : OperandSize) (s : Segment) (address : List ℕ) → length address
 memory z s address h =
     omega (arith, size z, segment s, length-append (sizeText z) (segmentText s ++ (bytes ":[" ++ (address ++ bytes "]"))), length-append (segmentText s) (bytes ":[" ++ (address ++ bytes "]")), length-append address (bytes "]"))
 
--- an operand, where what a displacement prints as is short enough
-operand : (f : Displacement → List ℕ) → ((d : Displacement) → length (f d) ≤ 20) → (o : Operand) → length (operandText f o) ≤ 20
-operand f h (Operand.Direct s z offset) = memory z s (hex4 offset) (lit≤ tt)
-operand f h (Operand.Indirect s z m d) =
+printed : (p : Printed) → length (printedText p) ≤ 5
+printed (Printed.Word w) = lit≤ tt
+printed (Printed.Signed Displacement.None) = lit≤ tt
+printed (Printed.Signed (Displacement.Byte d)) = lit≤ tt
+printed (Printed.Signed (Displacement.Word d)) = lit≤ tt
+
+operand : (f : Displacement → Printed) (o : Operand) → length (operandText f o) ≤ 20
+operand f (Operand.Direct s z offset) = memory z s (hex4 offset) (lit≤ tt)
+operand f (Operand.Indirect s z m d) =
     memory z s (modeText m ++ displacementText d) (omega (arith, mode m, displacement d, length-append (modeText m) (displacementText d)))
-operand f h (Operand.Register r) = omega (arith, register (r .0) (r .1))
-operand f h (Operand.Segment s) = omega (arith, segment s)
-operand f h (Operand.Immediate i) = omega (arith, immediate i)
-operand f h (Operand.Displacement d) = h d
-operand f h (Operand.SegmentAndOffset a) = lit≤ tt
+operand f (Operand.Register r) = omega (arith, register (r .0) (r .1))
+operand f (Operand.Segment s) = omega (arith, segment s)
+operand f (Operand.Immediate i) = omega (arith, immediate i)
+operand f (Operand.Displacement d) = omega (arith, printed (f d))
+operand f (Operand.SegmentAndOffset a) = lit≤ tt
 
-beside : (d : Displacement) → length (besideText d) ≤ 20
-beside Displacement.None = lit≤ tt
-beside (Displacement.Byte d) = lit≤ tt
-beside (Displacement.Word d) = lit≤ tt
-
-operands : (start taken : ℕ) (o : OperandSet) → length (operandsText start taken o) ≤ 43
-operands start taken OperandSet.None = lit≤ tt
-operands start taken (OperandSet.Destination d) = omega (arith, operand (λ d. hex4 (targetOf start taken d)) (λ d. lit≤ tt) d)
-operands start taken (OperandSet.DestinationAndSource d s) =
-    omega (arith, operand besideText beside d, operand besideText beside s, length-append (operandText besideText d) (bytes ", " ++ operandText besideText s))
+operands : (operation : Operation) (start taken : ℕ) (o : OperandSet) → length (operandsText operation start taken o) ≤ 43
+operands operation start taken OperandSet.None = lit≤ tt
+operands operation start taken (OperandSet.Destination d) = omega (arith, operand (alone operation start taken) d)
+operands operation start taken (OperandSet.DestinationAndSource d s) =
+    omega (arith, operand beside d, operand beside s, length-append (operandText beside d) (bytes ", " ++ operandText beside s))
 
 head : (start : ℕ) (taken : List ℕ) → length (headText start taken) ≡ 29
 unfolding headText
@@ -117,8 +119,8 @@ repeated (Repeated.Some Repeat.NotEqual) = lit≤ tt
 body : (start b : ℕ) (a : Answer) → length (bodyText start b a) ≤ 55
 unfolding instructionText
 body start b (Answer.Decoded i n p) =
-    let o = operandsText start n (i .operands) in
-    omega (arith, repeated (i .repeat), short (i .operation), operands start n (i .operands), length-append (repeatText (i .repeat)) (nameOf (i .operation) ++ o), length-append (nameOf (i .operation)) o)
+    let o = operandsText (i .operation) start n (i .operands) in
+    omega (arith, repeated (i .repeat), short (i .operation), operands (i .operation) start n (i .operands), length-append (repeatText (i .repeat)) (nameOf (i .operation) ++ o), length-append (nameOf (i .operation)) o)
 body start b (Answer.Refused e n p) = lit≤ tt
 
 step : (s : List ℕ) (at : ℕ) (a : Answer) → length (stepText s at a) ≤ longest

@@ -7,5 +7,6 @@ pub mod Lengths
 pub mod Answers
 pub mod Paging
 pub mod Settled
+pub mod Returns
 pub mod Example
 pub mod Main

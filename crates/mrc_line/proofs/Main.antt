@@ -1,21 +1,29 @@
 -- What is shown of the listing line. `target` promises an equation, which exactly one answer meets (`an-equation-settles` of mrc_instruction).
 -- Assumes nothing.
-use mathlib.Core.Path.{_≡_}
-use mathlib.Core.List.{List, _++_, map}
+use mathlib.Core.Path.{_≡_, refl}
+use mathlib.Core.List.{List, [], _∷_, _++_, map}
 use Prim.Native.Nat.{ℕ, _*_, _<_, _≤_}
 use native.Mathlib.Nat.{le-trans}
-use lib.ListN.{length}
+use lib.IntN.{pos, negsuc}
+use lib.ListN.{length, drop}
 use Rattle.mrc_instruction.specs.declared.errors.Refusal.{Refusal}
+use Rattle.mrc_instruction.specs.declared.operand.Displacement.{Displacement}
+use Rattle.mrc_instruction.specs.declared.operation.Operation.{Operation}
+use Rattle.mrc_instruction.specs.declared.operation.Operation.the-variants.{RET}
 use Rattle.mrc_instruction.specs.Promise.{ExactlyOne}
 use Rattle.mrc_line.specs.declared.line.LineAnswer.{LineAnswer}
 use Rattle.mrc_line.specs.declared.page.Page.{Page}
-use Rattle.mrc_line.specs.Text.{bytes}
-use Rattle.mrc_line.specs.Target.{offsets}
-use Rattle.mrc_line.specs.Line.{lineText, lineEnd, longest, Listed}
+use Rattle.mrc_line.specs.declared.printed.Printed.{Printed}
+use Rattle.mrc_line.specs.Text.{bytes, hex2}
+use Rattle.mrc_line.specs.Target.{offsets, targetOf}
+use Rattle.mrc_line.specs.Printed.{alone}
+use Rattle.mrc_line.specs.Operands.{printedText}
+use Rattle.mrc_line.specs.Line.{headText, lineText, lineEnd, longest, Listed}
 use Rattle.mrc_line.specs.Page.{linesOf, textOf, bytesOf, takenOf, pageOf, pagesFrom, Paged}
 use Rattle.mrc_line.specs.Example.{image, printed}
 use Rattle.mrc_line.proofs.Settled as Settled
 use Rattle.mrc_line.proofs.Lengths as Lengths
+use Rattle.mrc_line.proofs.Returns as Returns
 use Rattle.mrc_line.proofs.Lines as Lines
 use Rattle.mrc_line.proofs.Pages as Pages
 use Rattle.mrc_line.proofs.Example as Example
@@ -40,6 +48,24 @@ pub page-short :
     (image : List ℕ) (at room : ℕ) → let page = pageOf image at room in
     (length (textOf image page) ≤ longest * takenOf image page) × (takenOf image page ≤ offsets)
 page-short image at room = let k = Pages.page-short image at room in (k .text, k .taken)
+
+-- RET with a word, C2 or CA, lists the word as it stands behind the opcode, the high byte first, wherever it is
+pub returns-listed :
+    (image : List ℕ) (at low high : ℕ) (l : List ℕ) → low < 256 → high < 256 →
+    let text : ℕ → List ℕ = λ opcode. headText at (opcode ∷ low ∷ high ∷ []) ++ (bytes "RET " ++ (hex2 high ++ (hex2 low ++ lineEnd))) in
+    (drop at image ≡ 0xC2 ∷ low ∷ high ∷ l → lineText image at ≡ text 0xC2) × (drop at image ≡ 0xCA ∷ low ∷ high ∷ l → lineText image at ≡ text 0xCA)
+returns-listed image at low high l h k = (Returns.near image at low high l h k, Returns.far image at low high l h k)
+
+-- whatever the record: RET's number as a word, and the target of every other operation
+pub returns-counted :
+    (start taken : ℕ) →
+    map (λ d. printedText (alone RET start taken d)) (Displacement.None ∷ Displacement.Byte (negsuc 1) ∷ Displacement.Word (negsuc 3) ∷ Displacement.Word (pos 4) ∷ [])
+    ≡ map bytes ("0000" ∷ "FFFE" ∷ "FFFC" ∷ "0004" ∷ [])
+returns-counted start taken = refl
+
+pub others-have-targets :
+    (o : Operation) → (o ≡ RET → ⊥) → (start taken : ℕ) (d : Displacement) → alone o start taken d ≡ Printed.Word (targetOf start taken d)
+others-have-targets = Returns.targets
 
 -- the lines of an image account for all its bytes, for each once
 pub each-byte-once : (image : List ℕ) → bytesOf image (linesOf image) ≡ image

@@ -1,5 +1,6 @@
 pub mod Text
 pub mod Target
+pub mod Printed
 pub mod Operands
 pub mod Line
 pub mod Page

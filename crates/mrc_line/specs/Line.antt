@@ -34,7 +34,7 @@ lineEnd = 10 ∷ []
 
 -- rule 12.2: repeat, name and operands of an instruction that starts at an offset and takes so many bytes
 unfoldable pub instructionText : ℕ → ℕ → Instruction → List ℕ
-instructionText start taken i = repeatText (i .repeat) ++ (nameOf (i .operation) ++ operandsText start taken (i .operands))
+instructionText start taken i = repeatText (i .repeat) ++ (nameOf (i .operation) ++ operandsText (i .operation) start taken (i .operands))
 
 -- rule 12.7: a byte at which nothing decodes
 abbrev pub dbText : ℕ → List ℕ

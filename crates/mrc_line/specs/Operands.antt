@@ -14,8 +14,10 @@ use Rattle.mrc_instruction.specs.declared.operand.Displacement.{Displacement}
 use Rattle.mrc_instruction.specs.declared.operand.Immediate.{Immediate}
 use Rattle.mrc_instruction.specs.declared.operand.Operand.{Operand}
 use Rattle.mrc_instruction.specs.declared.instruction.OperandSet.{OperandSet}
+use Rattle.mrc_instruction.specs.declared.operation.Operation.{Operation}
+use Rattle.mrc_line.specs.declared.printed.Printed.{Printed}
 use Rattle.mrc_line.specs.Text.{bytes, hex2, hex4}
-use Rattle.mrc_line.specs.Target.{targetOf}
+use Rattle.mrc_line.specs.Printed.{alone, beside}
 
 -- rule 12.4: the names of registers, segments and modes
 abbrev pub registerText : RegisterEncoding → OperandSize → List ℕ
@@ -75,30 +77,30 @@ immediateText (Immediate.Word w) = hex4 w
 abbrev pub memoryText : OperandSize → Segment → List ℕ → List ℕ
 memoryText size segment address = sizeText size ++ (segmentText segment ++ (bytes ":[" ++ (address ++ bytes "]")))
 
--- rule 12.4: an operand, by what a displacement prints as
-abbrev pub operandText : (Displacement → List ℕ) → Operand → List ℕ
-operandText asDisplacement (Operand.Direct segment size offset) = memoryText size segment (hex4 offset)
-operandText asDisplacement (Operand.Indirect segment size mode displacement) =
+-- rules 12.5 and 12.6: what is printed for a displacement, as text; one with its sign that is none is +00
+abbrev pub signedText : Displacement → List ℕ
+signedText Displacement.None = bytes "+00"
+signedText (Displacement.Byte d) = displacementText (Displacement.Byte d)
+signedText (Displacement.Word d) = displacementText (Displacement.Word d)
+
+abbrev pub printedText : Printed → List ℕ
+printedText (Printed.Word w) = hex4 w
+printedText (Printed.Signed d) = signedText d
+
+-- rule 12.4: an operand, by what is printed for a displacement
+abbrev pub operandText : (Displacement → Printed) → Operand → List ℕ
+operandText printed (Operand.Direct segment size offset) = memoryText size segment (hex4 offset)
+operandText printed (Operand.Indirect segment size mode displacement) =
     memoryText size segment (modeText mode ++ displacementText displacement)
-operandText asDisplacement (Operand.Register register) = registerText (register .0) (register .1)
-operandText asDisplacement (Operand.Segment segment) = segmentText segment
-operandText asDisplacement (Operand.Immediate immediate) = immediateText immediate
-operandText asDisplacement (Operand.Displacement displacement) = asDisplacement displacement
-operandText asDisplacement (Operand.SegmentAndOffset address) = hex4 (address .segment) ++ (bytes ":" ++ hex4 (address .offset))
-
--- rule 12.4: a displacement that stands alone prints as its target
-abbrev pub aloneText : ℕ → ℕ → Operand → List ℕ
-aloneText start taken = operandText (λ d. hex4 (targetOf start taken d))
-
--- rule 12.6: beside another operand a displacement prints as sign and magnitude, and none as +00; no decode has one there
-abbrev pub besideText : Displacement → List ℕ
-besideText Displacement.None = bytes "+00"
-besideText (Displacement.Byte d) = displacementText (Displacement.Byte d)
-besideText (Displacement.Word d) = displacementText (Displacement.Word d)
+operandText printed (Operand.Register register) = registerText (register .0) (register .1)
+operandText printed (Operand.Segment segment) = segmentText segment
+operandText printed (Operand.Immediate immediate) = immediateText immediate
+operandText printed (Operand.Displacement displacement) = printedText (printed displacement)
+operandText printed (Operand.SegmentAndOffset address) = hex4 (address .segment) ++ (bytes ":" ++ hex4 (address .offset))
 
 -- rule 12.2: the destination before the source
-abbrev pub operandsText : ℕ → ℕ → OperandSet → List ℕ
-operandsText start taken OperandSet.None = []
-operandsText start taken (OperandSet.Destination destination) = bytes " " ++ aloneText start taken destination
-operandsText start taken (OperandSet.DestinationAndSource destination source) =
-    bytes " " ++ (operandText besideText destination ++ (bytes ", " ++ operandText besideText source))
+abbrev pub operandsText : Operation → ℕ → ℕ → OperandSet → List ℕ
+operandsText operation start taken OperandSet.None = []
+operandsText operation start taken (OperandSet.Destination destination) = bytes " " ++ operandText (alone operation start taken) destination
+operandsText operation start taken (OperandSet.DestinationAndSource destination source) =
+    bytes " " ++ (operandText beside destination ++ (bytes ", " ++ operandText beside source))

@@ -4,6 +4,7 @@ mod memory;
 mod names;
 mod operands;
 pub mod page;
+mod printed;
 mod registers;
 mod signs;
 mod step;

@@ -2,9 +2,10 @@
 use crate::memory::put_direct;
 use crate::memory::put_displacement;
 use crate::memory::put_indirect;
+use crate::printed::Printed;
+use crate::printed::alone;
 use crate::registers::put_register;
 use crate::registers::put_segment;
-use crate::target::target;
 use crate::text::put_byte;
 use crate::text::put_bytes;
 use crate::text::put_hex2;
@@ -14,11 +15,13 @@ use mrc_instruction::instruction::OperandSet;
 use mrc_instruction::operand::Displacement;
 use mrc_instruction::operand::Immediate;
 use mrc_instruction::operand::Operand;
+use mrc_instruction::operation::Operation;
 ghost use mathlib.Core.List.{_++_};
 ghost use Prim.Native.Nat.{_+_, _≤_};
 ghost use lib.ListN.{length};
 ghost use Rattle.mrc_line.specs.Text.{Put, bytes, hex4};
-ghost use Rattle.mrc_line.specs.Operands.{immediateText, besideText, operandText, aloneText, operandsText};
+ghost use Rattle.mrc_line.specs.Printed.{alone, beside};
+ghost use Rattle.mrc_line.specs.Operands.{immediateText, signedText, printedText, operandText, operandsText};
 
 // Two or four digits.
 fn put_immediate(buf: &mut [u8], at: usize, immediate: Immediate) -> usize
@@ -41,10 +44,10 @@ fn put_address(buf: &mut [u8], at: usize, address: Address) -> usize
     put_hex4(buf, c, address.offset)
 }
 
-// A displacement beside another operand: sign and magnitude, and none as +00.
-fn put_beside(buf: &mut [u8], at: usize, displacement: Displacement) -> usize
+// A displacement with its sign, and none as +00.
+fn put_signed(buf: &mut [u8], at: usize, displacement: Displacement) -> usize
     requires { ⌜ at + 5 ≤ length (now buf) ⌝ }
-    ensures { λ r. ⌜ Put 5 (now (buf .entry)) at (besideText displacement) (now (buf .exit)) r ⌝ }
+    ensures { λ r. ⌜ Put 5 (now (buf .entry)) at (signedText displacement) (now (buf .exit)) r ⌝ }
 {
     match displacement {
         Displacement::None => put_bytes(buf, at, b"+00"),
@@ -53,10 +56,21 @@ fn put_beside(buf: &mut [u8], at: usize, displacement: Displacement) -> usize
     }
 }
 
+// What is printed for a displacement.
+fn put_printed(buf: &mut [u8], at: usize, printed: Printed) -> usize
+    requires { ⌜ at + 5 ≤ length (now buf) ⌝ }
+    ensures { λ r. ⌜ Put 5 (now (buf .entry)) at (printedText printed) (now (buf .exit)) r ⌝ }
+{
+    match printed {
+        Printed::Word(w) => put_hex4(buf, at, w),
+        Printed::Signed(displacement) => put_signed(buf, at, displacement),
+    }
+}
+
 // An operand beside another.
 fn put_operand(buf: &mut [u8], at: usize, operand: Operand) -> usize
     requires { ⌜ at + 20 ≤ length (now buf) ⌝ }
-    ensures { λ r. ⌜ Put 20 (now (buf .entry)) at (operandText besideText operand) (now (buf .exit)) r ⌝ }
+    ensures { λ r. ⌜ Put 20 (now (buf .entry)) at (operandText beside operand) (now (buf .exit)) r ⌝ }
 {
     match operand {
         Operand::Direct(segment, size, offset) => put_direct(buf, at, segment, offset, size),
@@ -66,26 +80,30 @@ fn put_operand(buf: &mut [u8], at: usize, operand: Operand) -> usize
         Operand::Register(register) => put_register(buf, at, register),
         Operand::Segment(segment) => put_segment(buf, at, segment),
         Operand::Immediate(immediate) => put_immediate(buf, at, immediate),
-        Operand::Displacement(displacement) => put_beside(buf, at, displacement),
+        Operand::Displacement(displacement) => {
+            put_printed(buf, at, Printed::Signed(displacement))
+        }
         Operand::SegmentAndOffset(address) => put_address(buf, at, address),
     }
 }
 
-// A destination that stands alone: a displacement prints as its target.
-fn put_alone(buf: &mut [u8], at: usize, start: u16, taken: u16, destination: Operand) -> usize
+// A destination that stands alone.
+fn put_alone(
+    buf: &mut [u8],
+    at: usize,
+    operation: Operation,
+    start: u16,
+    taken: u16,
+    destination: Operand,
+) -> usize
     requires { ⌜ at + 20 ≤ length (now buf) ⌝ }
-    ensures { λ r. ⌜ Put 20 (now (buf .entry)) at (aloneText start taken destination) (now (buf .exit)) r ⌝ }
+    ensures { λ r. ⌜ Put 20 (now (buf .entry)) at (operandText (alone operation start taken) destination) (now (buf .exit)) r ⌝ }
 {
     match destination {
-        Operand::Direct(_, _, _) => put_operand(buf, at, destination),
-        Operand::Indirect(_, _, _, _) => put_operand(buf, at, destination),
-        Operand::Register(_) => put_operand(buf, at, destination),
-        Operand::Segment(_) => put_operand(buf, at, destination),
-        Operand::Immediate(_) => put_operand(buf, at, destination),
         Operand::Displacement(displacement) => {
-            put_hex4(buf, at, target(start, taken, displacement))
+            put_printed(buf, at, alone(operation, start, taken, displacement))
         }
-        Operand::SegmentAndOffset(_) => put_operand(buf, at, destination),
+        _ => put_operand(buf, at, destination),
     }
 }
 
@@ -93,18 +111,19 @@ fn put_alone(buf: &mut [u8], at: usize, start: u16, taken: u16, destination: Ope
 pub fn put_operands(
     buf: &mut [u8],
     at: usize,
+    operation: Operation,
     start: u16,
     taken: u16,
     operands: OperandSet,
 ) -> usize
     requires { ⌜ at + 43 ≤ length (now buf) ⌝ }
-    ensures { λ r. ⌜ Put 43 (now (buf .entry)) at (operandsText start taken operands) (now (buf .exit)) r ⌝ }
+    ensures { λ r. ⌜ Put 43 (now (buf .entry)) at (operandsText operation start taken operands) (now (buf .exit)) r ⌝ }
 {
     match operands {
         OperandSet::None => at,
         OperandSet::Destination(destination) => {
             let d = put_byte(buf, at, b' ');
-            put_alone(buf, d, start, taken, destination)
+            put_alone(buf, d, operation, start, taken, destination)
         }
         OperandSet::DestinationAndSource(destination, source) => {
             let d = put_byte(buf, at, b' ');

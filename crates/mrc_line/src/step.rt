@@ -68,7 +68,7 @@ fn put_instruction(
     let operands = instruction.operands;
     let a = put_repeat(buf, at, repeat);
     let b = put_name(buf, a, names, operation);
-    put_operands(buf, b, start, taken, operands)
+    put_operands(buf, b, operation, start, taken, operands)
 }
 
 // A byte that is not decoded.

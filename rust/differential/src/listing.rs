@@ -4,7 +4,7 @@ use crate::compare::hex;
 use crate::oracle::{self, USUAL_BUDGET};
 use crate::refusal::Refusal;
 use mrc_instruction::{
-    Displacement, Immediate, Instruction, Operand, OperandSet, OperandSize, Repeat,
+    Displacement, Immediate, Instruction, Operand, OperandSet, OperandSize, Operation, Repeat,
 };
 
 pub const LONGEST_IMAGE: usize = 65_536;
@@ -59,7 +59,7 @@ fn line_at(image: &[u8], at: usize) -> Line {
     let (taken, words) = match answer.result {
         Ok(instruction) => (
             answer.taken,
-            instruction_text(&instruction, at + answer.taken),
+            instruction_text(&instruction, at + answer.taken, 0),
         ),
         Err(_) => (1, format!("DB {:02X}", image[at])),
     };
@@ -70,8 +70,8 @@ fn line_at(image: &[u8], at: usize) -> Line {
     }
 }
 
-/// `next` is the offset of the byte after the instruction.
-pub fn instruction_text(instruction: &Instruction, next: usize) -> String {
+/// `next` is the offset of the byte after the instruction; from `base` a displacement of RET counts.
+pub fn instruction_text(instruction: &Instruction, next: usize, base: usize) -> String {
     let repeat = match instruction.repeat {
         None => "",
         Some(Repeat::Equal) => "REPE ",
@@ -80,21 +80,25 @@ pub fn instruction_text(instruction: &Instruction, next: usize) -> String {
     let name = instruction.operation.to_string().to_uppercase();
     let operands = match &instruction.operands {
         OperandSet::None => String::new(),
-        OperandSet::Destination(destination) => format!(" {}", destination_text(destination, next)),
-        OperandSet::DestinationAndSource(destination, source) => format!(
-            " {}, {}",
-            destination_text(destination, next),
-            operand_text(source)
-        ),
+        OperandSet::Destination(destination) => {
+            let from = match instruction.operation {
+                Operation::RET => base,
+                _ => next,
+            };
+            format!(" {}", alone_text(destination, from))
+        }
+        OperandSet::DestinationAndSource(destination, source) => {
+            format!(" {}, {}", operand_text(destination), operand_text(source))
+        }
     };
     format!("{repeat}{name}{operands}")
 }
 
-fn destination_text(destination: &Operand, next: usize) -> String {
-    match destination {
+fn alone_text(operand: &Operand, from: usize) -> String {
+    match operand {
         Operand::Displacement(displacement) => {
-            let target = next as i64 + distance(displacement);
-            format!("{:04X}", target.rem_euclid(65_536))
+            let word = from as i64 + distance(displacement);
+            format!("{:04X}", word.rem_euclid(65_536))
         }
         operand => operand_text(operand),
     }
@@ -203,6 +207,35 @@ mod tests {
         ends(&[0xEA, 0x78, 0x56, 0x34, 0x12], "JMP 1234:5678");
         ends(&[0x8E, 0xD8], "MOV DS, AX");
         ends(&[0xF2, 0xA6], "REPNE CMPSB");
+    }
+
+    #[test]
+    fn a_return_prints_its_word_wherever_it_stands() {
+        let ends = |at: usize, bytes: &[u8], words: &str| {
+            let mut image = vec![0x90; at];
+            image.extend(bytes);
+            let text = call(&image, at, ROOM).expect("a line").text;
+            assert!(text.ends_with(&format!("  {words}\n")), "{text}");
+        };
+        for at in [0, 0x100, 0xFFF0] {
+            ends(at, &[0xC2, 0x04, 0x00], "RET 0004");
+            ends(at, &[0xC2, 0xFC, 0xFF], "RET FFFC");
+            ends(at, &[0xC2, 0x00, 0x80], "RET 8000");
+            ends(at, &[0xCA, 0xFC, 0xFF], "RET FFFC");
+        }
+        ends(0x100, &[0xE9, 0x04, 0x00], "JMP 0107");
+    }
+
+    #[test]
+    fn a_return_of_any_record_prints_a_word() {
+        let text = |displacement| {
+            let operands = OperandSet::Destination(Operand::Displacement(displacement));
+            let instruction = Instruction::new(Operation::RET, operands);
+            instruction_text(&instruction, 0x107, 0)
+        };
+        assert_eq!(text(Displacement::Byte(-2)), "RET FFFE");
+        assert_eq!(text(Displacement::Word(-4)), "RET FFFC");
+        assert_eq!(text(Displacement::None), "RET 0000");
     }
 
     #[test]

@@ -31,6 +31,30 @@ fn the_example_of_document_01() {
 }
 
 #[test]
+fn a_return_prints_its_word_wherever_it_stands() {
+    for position in [0, 0x100, 0xFFFD] {
+        let ends = |bytes: [u8; 3], words: &str| {
+            let mut image = vec![0x90; position];
+            image.extend(bytes);
+            let mut out = [0; LONGEST_LINE];
+            let written = line(&image, position, &mut out).expect("a line within the image");
+            let expected = format!(
+                "{position:04X}  {:02X} {:02X} {:02X}               {words}\n",
+                bytes[0], bytes[1], bytes[2]
+            );
+            assert_eq!(&out[..written.length], expected.as_bytes());
+            assert_eq!(written.taken, 3);
+        };
+        ends([0xC2, 0x04, 0x00], "RET 0004");
+        ends([0xC2, 0xFC, 0xFF], "RET FFFC");
+        ends([0xC2, 0x00, 0x80], "RET 8000");
+        ends([0xCA, 0xFC, 0xFF], "RET FFFC");
+        let next = (position + 3) % LONGEST_IMAGE;
+        ends([0xE9, 0x00, 0x00], &format!("JMP {next:04X}"));
+    }
+}
+
+#[test]
 fn a_line_call_leaves_the_bytes_behind_its_line() {
     let mut out = [0xA5; LONGEST_LINE];
     let written = line(&EXAMPLE, 4, &mut out).expect("a line within the image");

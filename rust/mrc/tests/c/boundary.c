@@ -167,6 +167,23 @@ static void line(void)
     expect("refused line", mrc_line_refusal(answer), MRC_END_OF_INPUT);
 }
 
+/* What a return counts is its own word, wherever it stands: in the record a displacement, in the line four digits. */
+static void counted_return(void)
+{
+    uint8_t image[0x103];
+    memset(image, 0x90, sizeof image);
+    memcpy(image + 0x100, "\xC2\xFC\xFF", 3);
+    struct mrc_record record;
+    mrc_decode(image, sizeof image, 0x100, 15, &record);
+    expect("kind of a counted return", record.operand[MRC_DESTINATION].kind, MRC_DISPLACEMENT_WORD);
+    expect("count of a return", record.operand[MRC_DESTINATION].value, 0xFFFC);
+    const char expected[] = "0100  C2 FC FF               RET FFFC\n";
+    uint8_t out[MRC_LONGEST_LINE];
+    uint64_t answer = mrc_line(image, sizeof image, 0x100, out, sizeof out);
+    expect("length of a counted return", mrc_line_length(answer), strlen(expected));
+    expect("line of a counted return", (uint64_t)memcmp(out, expected, strlen(expected)), 0);
+}
+
 /* A buffer with room for the first line and not for the second. */
 static void page(void)
 {
@@ -216,6 +233,7 @@ int main(void)
     mrrm();
     numbers();
     line();
+    counted_return();
     page();
     step();
     nothing_lent();

@@ -3,7 +3,8 @@
 use mathlib.Core.Path.{ap, sym}
 use native.Mathlib.Omega.{arith}
 use Rattle.mrc_line.proofs.Put.{gives}
-use Rattle.mrc_line.specs.Operands.{besideText, operandText}
+use Rattle.mrc_line.specs.Printed.{beside}
+use Rattle.mrc_line.specs.Operands.{operandText}
 use borrow.Author.Needs.{needs}
 use Rattle.mrc_line.proofs.operands.put_operand.Statement.{statement}
 use Rattle.mrc_line.proofs.operands.put_operand.Tie as tie
@@ -41,8 +42,8 @@ put-immediate-requires c κs = search needs
 enum-known-operand-6 : tie.Need-enum-known-operand-6
 enum-known-operand-6 c = search needs
 
-put-beside-requires : tie.Need-put-beside-requires
-put-beside-requires c κs = search needs
+put-printed-requires : tie.Need-put-printed-requires
+put-printed-requires c κs = search needs
 
 enum-known-operand-7 : tie.Need-enum-known-operand-7
 enum-known-operand-7 c = search needs
@@ -54,43 +55,43 @@ same-length : tie.Need-same-length
 same-length c = search needs
 
 returns : tie.Need-returns
-returns c = gives (omega arith) (sym (ap (operandText besideText) (c .before .before .before .before .before .operand .given .1))) (c .before .before .put-direct .ensures)
+returns c = gives (omega arith) (sym (ap (operandText beside) (c .before .before .before .before .before .operand .given .1))) (c .before .before .put-direct .ensures)
 
 same-length-2 : tie.Need-same-length-2
 same-length-2 c = search needs
 
 returns-2 : tie.Need-returns-2
-returns-2 c = gives (omega arith) (sym (ap (operandText besideText) (c .before .before .before .before .before .operand2 .given .1))) (c .before .before .put-indirect .ensures)
+returns-2 c = gives (omega arith) (sym (ap (operandText beside) (c .before .before .before .before .before .operand2 .given .1))) (c .before .before .put-indirect .ensures)
 
 same-length-3 : tie.Need-same-length-3
 same-length-3 c = search needs
 
 returns-3 : tie.Need-returns-3
-returns-3 c = gives (omega arith) (sym (ap (operandText besideText) (c .before .before .before .before .before .operand3 .given .1))) (c .before .before .put-register .ensures)
+returns-3 c = gives (omega arith) (sym (ap (operandText beside) (c .before .before .before .before .before .operand3 .given .1))) (c .before .before .put-register .ensures)
 
 same-length-4 : tie.Need-same-length-4
 same-length-4 c = search needs
 
 returns-4 : tie.Need-returns-4
-returns-4 c = gives (omega arith) (sym (ap (operandText besideText) (c .before .before .before .before .before .operand4 .given .1))) (c .before .before .put-segment .ensures)
+returns-4 c = gives (omega arith) (sym (ap (operandText beside) (c .before .before .before .before .before .operand4 .given .1))) (c .before .before .put-segment .ensures)
 
 same-length-5 : tie.Need-same-length-5
 same-length-5 c = search needs
 
 returns-5 : tie.Need-returns-5
-returns-5 c = gives (omega arith) (sym (ap (operandText besideText) (c .before .before .before .before .before .operand5 .given .1))) (c .before .before .put-immediate .ensures)
+returns-5 c = gives (omega arith) (sym (ap (operandText beside) (c .before .before .before .before .before .operand5 .given .1))) (c .before .before .put-immediate .ensures)
 
 same-length-6 : tie.Need-same-length-6
 same-length-6 c = search needs
 
 returns-6 : tie.Need-returns-6
-returns-6 c = gives (omega arith) (sym (ap (operandText besideText) (c .before .before .before .before .before .operand6 .given .1))) (c .before .before .put-beside .ensures)
+returns-6 c = gives (omega arith) (sym (ap (operandText beside) (c .before .before .before .before .before .operand6 .given .1))) (c .before .before .put-printed .ensures)
 
 same-length-7 : tie.Need-same-length-7
 same-length-7 c = search needs
 
 returns-7 : tie.Need-returns-7
-returns-7 c = gives (omega arith) (sym (ap (operandText besideText) (c .before .before .before .before .before .operand7 .given .1))) (c .before .before .put-address .ensures)
+returns-7 c = gives (omega arith) (sym (ap (operandText beside) (c .before .before .before .before .before .operand7 .given .1))) (c .before .before .put-address .ensures)
 
 pub put-operand-spec : {M : Type 1} → statement M
 put-operand-spec =
@@ -107,7 +108,7 @@ put-operand-spec =
     enum-known-operand-5
     put-immediate-requires
     enum-known-operand-6
-    put-beside-requires
+    put-printed-requires
     enum-known-operand-7
     put-address-requires
     same-length

@@ -3,10 +3,10 @@
 use mathlib.Core.Path.{ap, sym, _∙_}
 use native.Mathlib.Omega.{arith}
 use Rattle.mrc_line.proofs.Put.{gives}
-use Rattle.mrc_line.specs.Operands.{displacementText, besideText}
+use Rattle.mrc_line.specs.Operands.{displacementText, signedText}
 use borrow.Author.Needs.{needs}
-use Rattle.mrc_line.proofs.operands.put_beside.Statement.{statement}
-use Rattle.mrc_line.proofs.operands.put_beside.Tie as tie
+use Rattle.mrc_line.proofs.operands.put_signed.Statement.{statement}
+use Rattle.mrc_line.proofs.operands.put_signed.Tie as tie
 
 enum-told : tie.Need-enum-told
 enum-told c = search needs
@@ -33,22 +33,22 @@ same-length : tie.Need-same-length
 same-length c = search needs
 
 returns : tie.Need-returns
-returns c = gives (omega arith) (sym (ap besideText (c .before .before .before .before .before .enum-told .given .1))) (c .before .before .put-bytes .ensures)
+returns c = gives (omega arith) (sym (ap signedText (c .before .before .before .before .before .enum-told .given .1))) (c .before .before .put-bytes .ensures)
 
 same-length-2 : tie.Need-same-length-2
 same-length-2 c = search needs
 
 returns-2 : tie.Need-returns-2
-returns-2 c = gives (omega arith) (ap displacementText (c .before .before .before .before .enum-told2 .given .1) ∙ sym (ap besideText (c .before .before .before .before .enum-told2 .given .1))) (c .before .before .put-displacement .ensures)
+returns-2 c = gives (omega arith) (ap displacementText (c .before .before .before .before .enum-told2 .given .1) ∙ sym (ap signedText (c .before .before .before .before .enum-told2 .given .1))) (c .before .before .put-displacement .ensures)
 
 same-length-3 : tie.Need-same-length-3
 same-length-3 c = search needs
 
 returns-3 : tie.Need-returns-3
-returns-3 c = gives (omega arith) (ap displacementText (c .before .before .before .before .enum-told3 .given .1) ∙ sym (ap besideText (c .before .before .before .before .enum-told3 .given .1))) (c .before .before .put-displacement2 .ensures)
+returns-3 c = gives (omega arith) (ap displacementText (c .before .before .before .before .enum-told3 .given .1) ∙ sym (ap signedText (c .before .before .before .before .enum-told3 .given .1))) (c .before .before .put-displacement2 .ensures)
 
-pub put-beside-spec : {M : Type 1} → statement M
-put-beside-spec =
+pub put-signed-spec : {M : Type 1} → statement M
+put-signed-spec =
     tie.close
     (tie.spec
     enum-told
