@@ -56,13 +56,14 @@ pub returns-listed :
     (drop at image ≡ 0xC2 ∷ low ∷ high ∷ l → lineText image at ≡ text 0xC2) × (drop at image ≡ 0xCA ∷ low ∷ high ∷ l → lineText image at ≡ text 0xCA)
 returns-listed image at low high l h k = (Returns.near image at low high l h k, Returns.far image at low high l h k)
 
--- whatever the record: RET's number as a word, and the target of every other operation
+-- RET's number as a word, whatever the place: none, a byte, and words of either sign
 pub returns-counted :
     (start taken : ℕ) →
     map (λ d. printedText (alone RET start taken d)) (Displacement.None ∷ Displacement.Byte (negsuc 1) ∷ Displacement.Word (negsuc 3) ∷ Displacement.Word (pos 4) ∷ [])
     ≡ map bytes ("0000" ∷ "FFFE" ∷ "FFFC" ∷ "0004" ∷ [])
 returns-counted start taken = refl
 
+-- the displacement of every other operation as its target
 pub others-have-targets :
     (o : Operation) → (o ≡ RET → ⊥) → (start taken : ℕ) (d : Displacement) → alone o start taken d ≡ Printed.Word (targetOf start taken d)
 others-have-targets = Returns.targets
