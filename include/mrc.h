@@ -14,7 +14,7 @@ extern "C" {
 #endif
 
 enum {
-    MRC_LONGEST_LINE = 85,    /* no line is longer, the LF included: proved */
+    MRC_LONGEST_LINE = 89,    /* no line is longer, the LF included: proved */
     MRC_LONGEST_IMAGE = 65536 /* the most bytes that mrc_line and mrc_page list */
 };
 
@@ -66,7 +66,7 @@ struct MRC_WORDS mrc_record {
     uint16_t reserved;             /* 0 */
     uint8_t operation;             /* enum mrc_operation */
     uint8_t repeat;                /* 0 no repeat, 1 repeat while equal (F3), 2 repeat while not equal (F2) */
-    uint8_t reach;                 /* 0, reserved: near or far */
+    uint8_t reach;                 /* enum mrc_reach */
     uint8_t kept;                  /* 0, reserved: an override that is kept */
     uint8_t written;               /* 0, reserved: displacement bytes written */
     uint8_t operands;              /* how many operands there are: 0 to 2 */
@@ -151,6 +151,10 @@ enum mrc_kind {
 };
 
 enum mrc_size { MRC_BYTE, MRC_WORD, MRC_NO_SIZE };
+
+/* How far a CALL, JMP or RET goes: within its segment, or to another. Far are 9A, EA, CA, CB and FF with reg 3 or 5. A line has
+ * `FAR` behind the name of what is far. Every other operation is neither, IRET, the conditional jumps and the loops too. */
+enum mrc_reach { MRC_NEITHER, MRC_NEAR, MRC_FAR };
 
 enum mrc_segment_code { MRC_ES, MRC_CS, MRC_SS, MRC_DS };
 

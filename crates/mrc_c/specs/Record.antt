@@ -1,11 +1,12 @@
--- Rule 15.1: the record of an answer as C and Rust get it: its fields, and the five machine words that they are packed in. The reach, the kept
--- override, the displacement bytes written and the third operand have their places, and are 0.
+-- Rule 15.1: the record of an answer as C and Rust get it: its fields, and the five machine words that they are packed in. The kept override, the
+-- displacement bytes written and the third operand have their places, and are 0.
 use Prim.Native.Nat.{ℕ, _+_, _<_}
 use mathlib.Core.Path.{_≡_}
 use mathlib.Core.List.{List, [], _∷_}
 use lib.ListN.{getD}
 use Rattle.mrc_instruction.specs.declared.instruction.Repeat.{Repeat}
 use Rattle.mrc_instruction.specs.declared.instruction.Repeated.{Repeated}
+use Rattle.mrc_instruction.specs.declared.instruction.Reach.{Reach}
 use Rattle.mrc_instruction.specs.declared.instruction.OperandSet.{OperandSet}
 use Rattle.mrc_instruction.specs.Widths.{words}
 use Rattle.mrc_instruction.specs.Operation.{operationNumber}
@@ -119,9 +120,14 @@ repeatCode Repeated.None = 0
 repeatCode (Repeated.Some Repeat.Equal) = 1
 repeatCode (Repeated.Some Repeat.NotEqual) = 2
 
-abbrev pub bodyBy : ℕ → ℕ → ℕ → Body
-bodyBy operation repeat operands =
-    record { operation = operation; repeat = repeat; reach = 0; kept = 0; written = 0; operands = operands; reserved = 0 }
+abbrev pub reachCode : Reach → ℕ
+reachCode Reach.Neither = 0
+reachCode Reach.Near = 1
+reachCode Reach.Far = 2
+
+abbrev pub bodyBy : ℕ → ℕ → ℕ → ℕ → Body
+bodyBy operation repeat reach operands =
+    record { operation = operation; repeat = repeat; reach = reach; kept = 0; written = 0; operands = operands; reserved = 0 }
 
 abbrev pub countOf : OperandSet → ℕ
 countOf OperandSet.None = 0
@@ -142,10 +148,10 @@ sourceOf (OperandSet.DestinationAndSource d s) = operandFields s
 abbrev pub recordOf : Answer → Record
 recordOf (Answer.Decoded i n p) = record {
   head = headOf (Answer.Decoded i n p);
-  body = bodyBy (operationNumber (i .operation)) (repeatCode (i .repeat)) (countOf (i .operands));
+  body = bodyBy (operationNumber (i .operation)) (repeatCode (i .repeat)) (reachCode (i .reach)) (countOf (i .operands));
   destination = destinationOf (i .operands);
   source = sourceOf (i .operands);
   third = noOperand;
 }
 recordOf (Answer.Refused e n p) =
-    record { head = headOf (Answer.Refused e n p); body = bodyBy 0 0 0; destination = noOperand; source = noOperand; third = noOperand }
+    record { head = headOf (Answer.Refused e n p); body = bodyBy 0 0 0 0; destination = noOperand; source = noOperand; third = noOperand }

@@ -5,6 +5,7 @@ use crate::words::FROM_2;
 use crate::words::FROM_4;
 use crate::words::FROM_5;
 use mrc_instruction::instruction::OperandSet;
+use mrc_instruction::instruction::Reach;
 use mrc_instruction::instruction::Repeat;
 use mrc_instruction::instruction::Repeated;
 use mrc_rules::Answer;
@@ -12,7 +13,7 @@ ghost use mathlib.Core.Path.{_≡_};
 ghost use Prim.Native.Nat.{_<_};
 ghost use Rattle.mrc_instruction.specs.Widths.{words};
 ghost use Rattle.mrc_rules.specs.Answer.{taken, prefixes};
-ghost use Rattle.mrc_c.specs.Record.{HeadHeld, BodyHeld, headBy, bodyBy, repeatCode, recordOf, Written};
+ghost use Rattle.mrc_c.specs.Record.{HeadHeld, BodyHeld, headBy, bodyBy, repeatCode, reachCode, recordOf, Written};
 
 fn head_word(refusal: u8, byte: u8, taken: usize, prefixes: usize) -> u64
     requires { ⌜ (taken < words) × (prefixes < words) ⌝ }
@@ -21,10 +22,13 @@ fn head_word(refusal: u8, byte: u8, taken: usize, prefixes: usize) -> u64
     (refusal as u64) + FROM_1 * (byte as u64) + FROM_2 * (taken as u64) + FROM_4 * (prefixes as u64)
 }
 
-fn body_word(operation: u8, repeat: u8, operands: u8) -> u64
-    ensures { λ r. ⌜ BodyHeld (bodyBy operation repeat operands) r ⌝ }
+fn body_word(operation: u8, repeat: u8, reach: u8, operands: u8) -> u64
+    ensures { λ r. ⌜ BodyHeld (bodyBy operation repeat reach operands) r ⌝ }
 {
-    (operation as u64) + FROM_1 * (repeat as u64) + FROM_5 * (operands as u64)
+    (operation as u64)
+        + FROM_1 * (repeat as u64)
+        + FROM_2 * (reach as u64)
+        + FROM_5 * (operands as u64)
 }
 
 fn repeat_code(repeated: Repeated) -> u8
@@ -36,6 +40,16 @@ fn repeat_code(repeated: Repeated) -> u8
             Repeat::Equal => 1,
             Repeat::NotEqual => 2,
         },
+    }
+}
+
+fn reach_code(reach: Reach) -> u8
+    ensures { λ r. ⌜ r ≡ reachCode reach ⌝ }
+{
+    match reach {
+        Reach::Neither => 0,
+        Reach::Near => 1,
+        Reach::Far => 2,
     }
 }
 
@@ -53,17 +67,19 @@ pub fn record_of(answer: Answer) -> [u64; 5]
             let operation = instruction.operation;
             let operands = instruction.operands;
             let repeat = instruction.repeat;
+            let reach = instruction.reach;
             let head = head_word(0, 0, taken, prefixes);
             let number = operation.number();
             let code = repeat_code(repeat);
+            let distance = reach_code(reach);
             match operands {
-                OperandSet::None => return [head, body_word(number, code, 0), 0, 0, 0],
+                OperandSet::None => return [head, body_word(number, code, distance, 0), 0, 0, 0],
                 OperandSet::Destination(destination) => {
-                    let body = body_word(number, code, 1);
+                    let body = body_word(number, code, distance, 1);
                     return [head, body, operand_word(destination), 0, 0];
                 }
                 OperandSet::DestinationAndSource(destination, source) => {
-                    let body = body_word(number, code, 2);
+                    let body = body_word(number, code, distance, 2);
                     return [
                         head,
                         body,

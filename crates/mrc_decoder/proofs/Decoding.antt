@@ -11,19 +11,20 @@ use native.Mathlib.Omega.{arith}
 use lib.ListN.{length, getD, drop, length-drop}
 use borrow.Author.Tests.{le-leb, lt-leb, eq-eqb, ne-eqb}
 use Rattle.mrc_instruction.specs.declared.errors.Refusal.{Refusal}
+use Rattle.mrc_instruction.specs.declared.instruction.Reach.the-variants.{Neither, Near, Far}
 use Rattle.mrc_rules.specs.declared.Answer.{Answer}
 use Rattle.mrc_decoder.specs.declared.form.OpcodeAlone.{OpcodeAlone}
 use Rattle.mrc_decoder.specs.Form.{Meaning, overrides, repeats, reads, meaningOf, aloneRow}
 use Rattle.mrc_instruction.specs.Reader.{Outcome, got, stopped, readFrom}
-use Rattle.mrc_forms.specs.declared.answers.FormRead.{FormRead}
 use Rattle.mrc_instruction.proofs.Rest.{here, none}
+use Rattle.mrc_rules.specs.Answer.{taken}
 use Rattle.mrc_rules.specs.Forms.{Tail, Row, rest}
 use Rattle.mrc_rules.specs.Table.{rowOf}
 use Rattle.mrc_rules.specs.Prefixes.{isOverride, isRepeat, isPrefix, repeatOf}
 use Rattle.mrc_rules.specs.Decode.{decodeBy, decodeAt, rules}
 use Rattle.mrc_forms.specs.Answers.{formRead, readBy}
 use Rattle.mrc_decoder.specs.Prefixes.{Small, underOverride, withRepeat, tooMany, pastEnd}
-use Rattle.mrc_decoder.specs.Decode.{afterOpcode, endOf, answerAt}
+use Rattle.mrc_decoder.specs.Decode.{afterOpcode, countedFrom}
 use Rattle.mrc_decoder.proofs.Steps.{step-end, step-tail, step-over, override-prefix, repeat-prefix}
 use Rattle.mrc_decoder.proofs.Wrapping.{override-wraps, repeat-wraps}
 use Rattle.mrc_rules.proofs.Counting.{taken-there, prefixes-there}
@@ -58,6 +59,9 @@ at-end s at n h = sym (inside s at n (omega arith) ∙ ap (decodeBy rules n) (no
 -- a form that is its opcode alone reads nothing, wherever that stands
 pub alone-anywhere : (form : OpcodeAlone) (byte at : ℕ) (l : List ℕ) → readBy byte (aloneRow form byte) at [] ≡ readBy byte (aloneRow form byte) at l
 alone-anywhere (OpcodeAlone.Bare op) byte at l = refl
+alone-anywhere (OpcodeAlone.Return Neither) byte at l = refl
+alone-anywhere (OpcodeAlone.Return Near) byte at l = refl
+alone-anywhere (OpcodeAlone.Return Far) byte at l = refl
 alone-anywhere (OpcodeAlone.OnSegment op) byte at l = refl
 alone-anywhere OpcodeAlone.Exchange byte at l = refl
 alone-anywhere OpcodeAlone.InDx byte at l = refl
@@ -67,11 +71,11 @@ alone-anywhere OpcodeAlone.OutDx byte at l = refl
 taken-at : (at n : ℕ) → at + 1 + n - at ≡ suc n
 taken-at at n = omega arith
 
-answered-at : (at : ℕ) (o : Outcome Tail) → answerAt at (formRead (at + 1) o) ≡ afterOpcode o
+answered-at : (at : ℕ) (o : Outcome Tail) → countedFrom at (formRead (at + 1) o) ≡ afterOpcode o
 answered-at at (got i n) = rw (taken-at at n)
 answered-at at (stopped e n) = rw (taken-at at n)
 
-ended-at : (at : ℕ) (o : Outcome Tail) → at ≤ endOf (formRead (at + 1) o)
+ended-at : (at : ℕ) (o : Outcome Tail) → at ≤ taken (formRead (at + 1) o)
 ended-at at (got i n) = omega arith
 ended-at at (stopped e n) = omega arith
 
@@ -87,15 +91,15 @@ module _ (s : List ℕ) (at n : ℕ) (h : at < length s) where
   start = inside s at n (omega arith) ∙ ap (decodeBy rules n) (here s at h)
 
   -- what a byte that reads by a row is read as: the position behind it is past the byte, and it is the answer
-  pub ends-behind : {row : Row} {r : FormRead} → reads row ≡ meaningOf (getD s at 0) → r ≡ readBy (getD s at 0) row (at + 1) (drop (at + 1) s) → at ≤ endOf r
+  pub ends-behind : {row : Row} {r : Answer} → reads row ≡ meaningOf (getD s at 0) → r ≡ readBy (getD s at 0) row (at + 1) (drop (at + 1) s) → at ≤ taken r
   ends-behind {row} e f = rw f (ended-at at (readFrom (rest (getD s at 0) row) (drop (at + 1) s)))
 
-  pub no-prefix : {row : Row} {r : FormRead} {d : Answer} → reads row ≡ meaningOf (getD s at 0) → r ≡ readBy (getD s at 0) row (at + 1) (drop (at + 1) s)
-      → d ≡ answerAt at r → d ≡ decodeAt s at n
+  pub no-prefix : {row : Row} {r d : Answer} → reads row ≡ meaningOf (getD s at 0) → r ≡ readBy (getD s at 0) row (at + 1) (drop (at + 1) s)
+      → d ≡ countedFrom at r → d ≡ decodeAt s at n
   no-prefix {row} e f g =
       let said = says (getD s at 0) (reads row) e in
       g
-      ∙ ap (answerAt at) f
+      ∙ ap (countedFrom at) f
       ∙ answered-at at (readFrom (rest (getD s at 0) row) (drop (at + 1) s))
       ∙ ap (λ (x : Row). afterOpcode (readFrom (rest (getD s at 0) x) (drop (at + 1) s))) (said .1)
       ∙ sym (start ∙ step-tail rules n (getD s at 0) (drop (at + 1) s) (said .0))

@@ -18,7 +18,7 @@ use Rattle.mrc_instruction.specs.Mrrm.{ModRM, regField, aModRM}
 use Rattle.mrc_instruction.specs.Read.{operandRead}
 use Rattle.mrc_instruction.proofs.Sequence.{after, then-at, stop-at}
 use Rattle.mrc_rules.specs.Forms.{Tail, ModRMForm, rmReg, regRm, rmSegment, segmentRm, pop, shiftByOne, shiftByCl, withModRM, rm}
-use Rattle.mrc_forms.specs.declared.answers.FormRead.{FormRead}
+use Rattle.mrc_rules.specs.declared.Answer.{Answer}
 use Rattle.mrc_forms.specs.Answers.{formRead, readBehind}
 
 -- n bytes more before the position
@@ -32,7 +32,7 @@ form-after at n (stopped e k) =
 
 -- the ModRM at a position is read, and then what K reads behind it; or it is not
 module _ (size : OperandSize) (s : List ℕ) (at : ℕ) (K : Operand → ℕ → Reader Tail) where
-  pub then-behind : {operand : Operand} {next byte : ℕ} {r : FormRead} → OperandRead.Got operand next byte ≡ operandRead size at (readFrom aModRM (drop at s))
+  pub then-behind : {operand : Operand} {next byte : ℕ} {r : Answer} → OperandRead.Got operand next byte ≡ operandRead size at (readFrom aModRM (drop at s))
       → r ≡ formRead next (readFrom (K operand byte) (drop next s)) → r ≡ formRead at (readFrom (withModRM size K) (drop at s))
   unfolding withModRM
   then-behind {operand} {next} {byte} {r} = go (readFrom aModRM (drop at s)) refl
@@ -49,15 +49,15 @@ module _ (size : OperandSize) (s : List ℕ) (at : ℕ) (K : Operand → ℕ →
       go (stopped x n) q e f = cc
 
   pub stops-before : {e : Refusal} {end : ℕ} → OperandRead.Refused e end ≡ operandRead size at (readFrom aModRM (drop at s))
-      → FormRead.Refused e end ≡ formRead at (readFrom (withModRM size K) (drop at s))
+      → Answer.Refused e end 0 ≡ formRead at (readFrom (withModRM size K) (drop at s))
   unfolding withModRM
   stops-before {e} {end} = go (readFrom aModRM (drop at s)) refl
     where
       go : (o : Outcome ModRM) → o ≡ readFrom aModRM (drop at s) → OperandRead.Refused e end ≡ operandRead size at o
-          → FormRead.Refused e end ≡ formRead at (readFrom (withModRM size K) (drop at s))
+          → Answer.Refused e end 0 ≡ formRead at (readFrom (withModRM size K) (drop at s))
       go (got m n) q h = cc
       go (stopped x n) q h =
-          let same-refusal : FormRead.Refused e end ≡ FormRead.Refused x (at + n) = cc in
+          let same-refusal : Answer.Refused e end 0 ≡ Answer.Refused x (at + n) 0 = cc in
           same-refusal ∙ ap (formRead at) (stop-at aModRM (λ m. K (rm m size) (m .byte)) s at q)
 
 -- where nothing is read behind the ModRM, what stands there does not matter

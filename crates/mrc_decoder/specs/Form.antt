@@ -3,8 +3,11 @@
 use Prim.Native.Nat.{ℕ, _/_, _%_}
 use mathlib.Core.Bool.{cond}
 use lib.Dec.{ltb}
+use Rattle.mrc_instruction.specs.declared.instruction.Reach.{Reach}
+use Rattle.mrc_instruction.specs.declared.instruction.Reach.the-variants.{Neither, Near, Far}
+use Rattle.mrc_instruction.specs.declared.operation.Operation.the-variants.{RET}
 use Rattle.mrc_instruction.specs.Register.{registerOf, segmentOf}
-use Rattle.mrc_rules.specs.Forms.{Row, _⦂_, ModRMForm, invalid, bare, immediateToAccumulator, onSegment, onRegister, onDisplacement, group83, pop, exchange, far, registerAndImmediate, shiftByImmediate, onImmediate, escape, inPort, outPort, inDx, outDx, groupF6, groupFE, arithmetic}
+use Rattle.mrc_rules.specs.Forms.{Row, _⦂_, ModRMForm, invalid, bare, immediateToAccumulator, onSegment, onRegister, onDisplacement, group83, pop, exchange, far, registerAndImmediate, shiftByImmediate, onImmediate, escape, inPort, outPort, inDx, outDx, groupF6, groupFE, reaching, arithmetic}
 use Rattle.mrc_rules.specs.Table.{rowOf}
 use Rattle.mrc_rules.specs.Prefixes.{isOverride, isRepeat}
 use Rattle.mrc_instruction.specs.Operand.{sizeBy}
@@ -24,9 +27,16 @@ pub data Meaning : Type 0 where
 abbrev pub meaningOf : ℕ → Meaning
 meaningOf byte = cond (isOverride byte) overrides (cond (isRepeat byte) repeats (reads (rowOf byte)))
 
+-- a row with how far it goes; what goes neither near nor far has its row as it is
+abbrev pub withReach : Reach → Row → Row
+withReach Neither row = row
+withReach Near row = reaching Near row
+withReach Far row = reaching Far row
+
 -- the row of a form that is its opcode alone
 abbrev pub aloneRow : OpcodeAlone → ℕ → Row
 aloneRow (OpcodeAlone.Bare op) byte = bare op
+aloneRow (OpcodeAlone.Return reach) byte = withReach reach (bare RET)
 aloneRow (OpcodeAlone.OnSegment op) byte = onSegment op (segmentOf (byte / 8 % 4))
 aloneRow OpcodeAlone.Exchange byte = exchange (registerOf (byte % 8))
 aloneRow OpcodeAlone.InDx byte = inDx (sizeBy byte)
@@ -50,9 +60,9 @@ meant Form.Override byte = overrides
 meant Form.Repeat byte = repeats
 meant Form.Invalid byte = reads invalid
 meant (Form.OnRegister op) byte = reads (onRegister op (registerOf (byte % 8)))
-meant (Form.OnImmediate op size) byte = reads (onImmediate op size)
-meant (Form.OnDisplacement op size) byte = reads (onDisplacement op size)
-meant (Form.Far op) byte = reads (far op)
+meant (Form.OnImmediate op size reach) byte = reads (withReach reach (onImmediate op size))
+meant (Form.OnDisplacement op size reach) byte = reads (withReach reach (onDisplacement op size))
+meant (Form.Far op) byte = reads (reaching Far (far op))
 meant Form.Escape byte = reads escape
 meant Form.InPort byte = reads (inPort (sizeBy byte))
 meant Form.OutPort byte = reads (outPort (sizeBy byte))

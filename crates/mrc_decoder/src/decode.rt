@@ -20,7 +20,7 @@ use mrc_directed::ports::out_dx;
 use mrc_directed::ports::out_port;
 use mrc_directed::shifts::shift_by_count;
 use mrc_directed::shifts::shift_by_immediate;
-use mrc_forms::answers::FormRead;
+use mrc_forms::answers::reaching;
 use mrc_forms::forms::bare;
 use mrc_forms::forms::escape;
 use mrc_forms::forms::far;
@@ -32,9 +32,11 @@ use mrc_forms::forms::on_register;
 use mrc_forms::forms::on_segment;
 use mrc_forms::forms::pop;
 use mrc_instruction::errors::Refusal;
+use mrc_instruction::instruction::Reach;
 use mrc_instruction::mrrm::OperandRead;
 use mrc_instruction::mrrm::read_operand;
 use mrc_instruction::operand::OperandSize;
+use mrc_instruction::operation::Operation;
 use mrc_rules::Answer;
 ghost use mathlib.Core.Path.{_≡_};
 ghost use mathlib.Core.List.{[]};
@@ -44,15 +46,17 @@ ghost use Rattle.mrc_rules.specs.Forms.{_⦂_};
 ghost use Rattle.mrc_rules.specs.Decode.{decodeAt};
 ghost use Rattle.mrc_forms.specs.Answers.{readBy};
 ghost use Rattle.mrc_decoder.specs.Form.{aloneRow, modRMForm};
-ghost use Rattle.mrc_decoder.specs.Decode.{endOf, answerAt};
+ghost use Rattle.mrc_rules.specs.Answer.{taken};
+ghost use Rattle.mrc_decoder.specs.Decode.{countedFrom};
 ghost use Rattle.mrc_decoder.specs.Prefixes.{tooMany, pastEnd};
 
 // A form that is its opcode alone, with the position behind it.
-fn opcode_alone(form: OpcodeAlone, opcode: u8, at: usize) -> FormRead
+fn opcode_alone(form: OpcodeAlone, opcode: u8, at: usize) -> Answer
     ensures { λ r. ⌜ r ≡ readBy opcode (aloneRow form opcode) at [] ⌝ }
 {
     match form {
         OpcodeAlone::Bare(operation) => return bare(operation, at),
+        OpcodeAlone::Return(reach) => return reaching(reach, bare(Operation::RET, at)),
         OpcodeAlone::OnSegment(operation) => return on_segment(operation, opcode, at),
         OpcodeAlone::Exchange => return exchange(opcode, at),
         OpcodeAlone::InDx => return in_dx(opcode, at),
@@ -61,13 +65,13 @@ fn opcode_alone(form: OpcodeAlone, opcode: u8, at: usize) -> FormRead
 }
 
 // A form with a ModRM, from the position behind the opcode on: the operand of a size that the ModRM names, and what follows.
-fn with_modrm(form: WithModRM, size: OperandSize, opcode: u8, s: &[u8], at: usize) -> FormRead
+fn with_modrm(form: WithModRM, size: OperandSize, opcode: u8, s: &[u8], at: usize) -> Answer
     ensures { λ r. ⌜ r ≡ readBy opcode (modRMForm form opcode ⦂ size) at (drop at (now (s .entry))) ⌝ }
 {
     match read_operand(size, s, at) {
         OperandRead::Got(operand, next, byte) => match form {
             WithModRM::Pop => return pop(operand, byte, next),
-            WithModRM::GroupFE => return group_fe(operand, byte, next),
+            WithModRM::GroupFE => return group_fe(size, operand, byte, next),
             WithModRM::GroupF6 => return group_f6(size, operand, byte, s, next),
             WithModRM::RegisterOrMemoryAndRegister(operation, direction) => {
                 return register_or_memory_and_register(
@@ -90,28 +94,40 @@ fn with_modrm(form: WithModRM, size: OperandSize, opcode: u8, s: &[u8], at: usiz
             WithModRM::ShiftByImmediate => return shift_by_immediate(operand, byte, s, next),
             WithModRM::ShiftByCount => return shift_by_count(opcode, size, operand, byte, next),
         },
-        OperandRead::Refused(e, end) => return FormRead::Refused(e, end),
+        OperandRead::Refused(e, end) => return Answer::Refused {
+            refusal: e,
+            taken: end,
+            prefixes: 0,
+        },
     }
 }
 
-// What a form read, as the answer at the position of its opcode.
-fn answered(at: usize, read: FormRead) -> Answer
-    requires { ⌜ at ≤ endOf read ⌝ }
-    ensures { λ r. ⌜ r ≡ answerAt at read ⌝ }
+// What a form's function answers, its bytes counted from the position of its opcode on.
+fn answered(at: usize, read: Answer) -> Answer
+    requires { ⌜ at ≤ taken read ⌝ }
+    ensures { λ r. ⌜ r ≡ countedFrom at read ⌝ }
 {
     match read {
-        FormRead::Got(instruction, end) => {
+        Answer::Decoded {
+            instruction,
+            taken,
+            prefixes,
+        } => {
             return Answer::Decoded {
                 instruction,
-                taken: end - at,
-                prefixes: 0,
+                taken: taken - at,
+                prefixes,
             };
         }
-        FormRead::Refused(refusal, end) => {
+        Answer::Refused {
+            refusal,
+            taken,
+            prefixes,
+        } => {
             return Answer::Refused {
                 refusal,
-                taken: end - at,
-                prefixes: 0,
+                taken: taken - at,
+                prefixes,
             };
         }
     }
@@ -169,13 +185,21 @@ pub fn decode_instruction(s: &[u8], at: usize, budget: u8) -> Answer
         }
         Form::Invalid => return answered(at, invalid(byte, at + 1)),
         Form::OnRegister(operation) => return answered(at, on_register(operation, byte, at + 1)),
-        Form::OnImmediate(operation, size) => {
-            return answered(at, on_immediate(operation, size, s, at + 1));
+        Form::OnImmediate(operation, size, reach) => {
+            return answered(
+                at,
+                reaching(reach, on_immediate(operation, size, s, at + 1)),
+            );
         }
-        Form::OnDisplacement(operation, size) => {
-            return answered(at, on_displacement(operation, size, s, at + 1));
+        Form::OnDisplacement(operation, size, reach) => {
+            return answered(
+                at,
+                reaching(reach, on_displacement(operation, size, s, at + 1)),
+            );
         }
-        Form::Far(operation) => return answered(at, far(operation, s, at + 1)),
+        Form::Far(operation) => {
+            return answered(at, reaching(Reach::Far, far(operation, s, at + 1)));
+        }
         Form::Escape => return answered(at, escape(s, at + 1)),
         Form::InPort => return answered(at, in_port(byte, s, at + 1)),
         Form::OutPort => return answered(at, out_port(byte, s, at + 1)),

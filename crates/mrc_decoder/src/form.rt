@@ -4,6 +4,7 @@ use mrc_forms::groups::GROUP_80;
 use mrc_forms::groups::GROUP_C6;
 use mrc_forms::groups::group1_operation;
 use mrc_forms::groups::jump_operation;
+use mrc_instruction::instruction::Reach;
 use mrc_instruction::operand::OperandSize;
 use mrc_instruction::operation::Operation;
 ghost use mathlib.Core.Path.{_≡_};
@@ -16,8 +17,8 @@ pub enum Form {
     Repeat,
     Invalid,
     OnRegister(Operation),
-    OnImmediate(Operation, OperandSize),
-    OnDisplacement(Operation, OperandSize),
+    OnImmediate(Operation, OperandSize, Reach),
+    OnDisplacement(Operation, OperandSize, Reach),
     Far(Operation),
     Escape,
     InPort,
@@ -31,6 +32,7 @@ pub enum Form {
 
 pub enum OpcodeAlone {
     Bare(Operation),
+    Return(Reach),
     OnSegment(Operation),
     Exchange,
     InDx,
@@ -146,8 +148,8 @@ pub fn form_of(opcode: u8) -> Form
         0xB1 | 0xB3 | 0xB5 | 0xB7 | 0xB9 | 0xBB | 0xBD | 0xBF => Form::RegisterAndImmediate,
         0xC0 => Form::WithModRM(WithModRM::ShiftByImmediate, OperandSize::Byte),
         0xC1 => Form::WithModRM(WithModRM::ShiftByImmediate, OperandSize::Word),
-        0xC2 => Form::OnDisplacement(Operation::RET, OperandSize::Word),
-        0xC3 | 0xCB => Form::OpcodeAlone(OpcodeAlone::Bare(Operation::RET)),
+        0xC2 => Form::OnDisplacement(Operation::RET, OperandSize::Word, Reach::Near),
+        0xC3 => Form::OpcodeAlone(OpcodeAlone::Return(Reach::Near)),
         0xC4 => Form::WithModRM(
             WithModRM::RegisterOrMemoryAndRegister(Operation::LES, Direction::RegFirst), // C4 reg,rm
             OperandSize::Word,
@@ -164,25 +166,26 @@ pub fn form_of(opcode: u8) -> Form
             WithModRM::ImmediateToRegisterOrMemory(GROUP_C6),
             OperandSize::Word,
         ),
-        0xCA => Form::OnImmediate(Operation::RET, OperandSize::Word),
+        0xCA => Form::OnImmediate(Operation::RET, OperandSize::Word, Reach::Far),
+        0xCB => Form::OpcodeAlone(OpcodeAlone::Return(Reach::Far)),
         0xCC => Form::OpcodeAlone(OpcodeAlone::Bare(Operation::INT3)),
-        0xCD => Form::OnImmediate(Operation::INT, OperandSize::Byte),
+        0xCD => Form::OnImmediate(Operation::INT, OperandSize::Byte, Reach::Neither),
         0xCE => Form::OpcodeAlone(OpcodeAlone::Bare(Operation::INTO)),
         0xCF => Form::OpcodeAlone(OpcodeAlone::Bare(Operation::IRET)),
         0xD0 | 0xD2 => Form::WithModRM(WithModRM::ShiftByCount, OperandSize::Byte),
         0xD1 | 0xD3 => Form::WithModRM(WithModRM::ShiftByCount, OperandSize::Word),
-        0xD4 => Form::OnImmediate(Operation::AAM, OperandSize::Byte),
-        0xD5 => Form::OnImmediate(Operation::AAD, OperandSize::Byte),
+        0xD4 => Form::OnImmediate(Operation::AAM, OperandSize::Byte, Reach::Neither),
+        0xD5 => Form::OnImmediate(Operation::AAD, OperandSize::Byte, Reach::Neither),
         0xD6 => Form::OpcodeAlone(OpcodeAlone::Bare(Operation::SALC)),
         0xD7 => Form::OpcodeAlone(OpcodeAlone::Bare(Operation::XLATB)),
-        0xE0 => Form::OnDisplacement(Operation::LOOPNZ, OperandSize::Byte),
-        0xE1 => Form::OnDisplacement(Operation::LOOPZ, OperandSize::Byte),
-        0xE2 => Form::OnDisplacement(Operation::LOOP, OperandSize::Byte),
-        0xE3 => Form::OnDisplacement(Operation::JCXZ, OperandSize::Byte),
-        0xE8 => Form::OnDisplacement(Operation::CALL, OperandSize::Word),
-        0xE9 => Form::OnDisplacement(Operation::JMP, OperandSize::Word),
+        0xE0 => Form::OnDisplacement(Operation::LOOPNZ, OperandSize::Byte, Reach::Neither),
+        0xE1 => Form::OnDisplacement(Operation::LOOPZ, OperandSize::Byte, Reach::Neither),
+        0xE2 => Form::OnDisplacement(Operation::LOOP, OperandSize::Byte, Reach::Neither),
+        0xE3 => Form::OnDisplacement(Operation::JCXZ, OperandSize::Byte, Reach::Neither),
+        0xE8 => Form::OnDisplacement(Operation::CALL, OperandSize::Word, Reach::Near),
+        0xE9 => Form::OnDisplacement(Operation::JMP, OperandSize::Word, Reach::Near),
         0xEA => Form::Far(Operation::JMP),
-        0xEB => Form::OnDisplacement(Operation::JMP, OperandSize::Byte),
+        0xEB => Form::OnDisplacement(Operation::JMP, OperandSize::Byte, Reach::Near),
         0xF0 => Form::OpcodeAlone(OpcodeAlone::Bare(Operation::LOCK)),
         0xF1 => Form::OpcodeAlone(OpcodeAlone::Bare(Operation::INT1)),
         0xF4 => Form::OpcodeAlone(OpcodeAlone::Bare(Operation::HLT)),
@@ -199,7 +202,11 @@ pub fn form_of(opcode: u8) -> Form
         0xFF => Form::WithModRM(WithModRM::GroupFE, OperandSize::Word),
         0x00..=0x3F => group1(opcode),
         0x60..=0x6F => Form::Invalid,
-        0x70..=0x7F => Form::OnDisplacement(jump_operation(opcode % 16), OperandSize::Byte),
+        0x70..=0x7F => Form::OnDisplacement(
+            jump_operation(opcode % 16),
+            OperandSize::Byte,
+            Reach::Neither,
+        ),
         0x91..=0x97 => Form::OpcodeAlone(OpcodeAlone::Exchange),
         0xA8..=0xA9 => Form::ImmediateToAccumulator(Operation::TEST),
         0xC8..=0xC9 => Form::Invalid,

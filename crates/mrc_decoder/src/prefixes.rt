@@ -1,6 +1,5 @@
 // Prefixes: what one makes of the answer to the bytes behind it.
 use mrc_instruction::errors::Refusal;
-use mrc_instruction::instruction::Instruction;
 use mrc_instruction::instruction::OperandSet;
 use mrc_instruction::instruction::Repeat;
 use mrc_instruction::instruction::Repeated;
@@ -56,9 +55,7 @@ pub fn under_override(prefix: u8, inner: Answer) -> Answer
             taken,
             prefixes,
         } => {
-            let operation = instruction.operation;
             let operands = instruction.operands;
-            let repeat = instruction.repeat;
             match operands {
                 OperandSet::None => Answer::Refused {
                     refusal: Refusal::InvalidPrefix(prefix),
@@ -68,11 +65,7 @@ pub fn under_override(prefix: u8, inner: Answer) -> Answer
                 OperandSet::Destination(destination) => {
                     let operands = OperandSet::Destination(override_segment(destination, segment));
                     Answer::Decoded {
-                        instruction: Instruction {
-                            repeat,
-                            operation,
-                            operands,
-                        },
+                        instruction: instruction.on(operands),
                         taken: taken + 1,
                         prefixes: prefixes + 1,
                     }
@@ -83,11 +76,7 @@ pub fn under_override(prefix: u8, inner: Answer) -> Answer
                         override_segment(source, segment),
                     );
                     Answer::Decoded {
-                        instruction: Instruction {
-                            repeat,
-                            operation,
-                            operands,
-                        },
+                        instruction: instruction.on(operands),
                         taken: taken + 1,
                         prefixes: prefixes + 1,
                     }
@@ -128,19 +117,11 @@ pub fn with_repeat(prefix: u8, inner: Answer) -> Answer
             instruction,
             taken,
             prefixes,
-        } => {
-            let operation = instruction.operation;
-            let operands = instruction.operands;
-            Answer::Decoded {
-                instruction: Instruction {
-                    repeat,
-                    operation,
-                    operands,
-                },
-                taken: taken + 1,
-                prefixes: prefixes + 1,
-            }
-        }
+        } => Answer::Decoded {
+            instruction: instruction.repeated(repeat),
+            taken: taken + 1,
+            prefixes: prefixes + 1,
+        },
         Answer::Refused {
             refusal,
             taken,

@@ -1,11 +1,10 @@
 // The forms that several opcodes share, destination before source. Those with a ModRM take the operand that it names, its byte and the
 // position behind it; the other takes the position behind the opcode.
-use mrc_forms::answers::FormRead;
+use mrc_forms::answers::decoded;
 use mrc_forms::groups::immediate_operation;
 use mrc_forms::traits::ImmediateRead;
 use mrc_forms::traits::d_bit;
 use mrc_forms::traits::read_immediate;
-use mrc_instruction::instruction::Instruction;
 use mrc_instruction::instruction::OperandSet;
 use mrc_instruction::mrrm::reg_field;
 use mrc_instruction::operand::Operand;
@@ -15,6 +14,7 @@ use mrc_instruction::register::RegisterEncoding;
 use mrc_instruction::register::Segment;
 use mrc_instruction::register::SegmentField;
 use mrc_instruction::register::SizedRegisterEncoding;
+use mrc_rules::Answer;
 ghost use mathlib.Core.Path.{_≡_};
 ghost use mathlib.Core.List.{[]};
 ghost use lib.ListN.{drop};
@@ -50,21 +50,21 @@ pub fn register_or_memory_and_register(
     reg_mem: Operand,
     byte: u8,
     at: usize,
-) -> FormRead
+) -> Answer
     ensures { λ r. ⌜ r ≡ readBehind (registerOrMemoryAndRegister direction opcode operation) size «reg_mem» byte at [] ⌝ }
 {
     let register = RegisterEncoding::from_low_bits(byte / 8);
     let reg = Operand::Register(SizedRegisterEncoding(register, size));
     if reg_first(direction, opcode) {
         let operands = OperandSet::DestinationAndSource(reg, reg_mem);
-        return FormRead::Got(Instruction::new(operation, operands), at);
+        return decoded(operation, operands, at);
     }
     let operands = OperandSet::DestinationAndSource(reg_mem, reg);
-    return FormRead::Got(Instruction::new(operation, operands), at);
+    return decoded(operation, operands, at);
 }
 
 // 1 0 0 0 1 1 d 0 | mod reg r/m
-pub fn register_or_memory_and_segment(opcode: u8, reg_mem: Operand, byte: u8, at: usize) -> FormRead
+pub fn register_or_memory_and_segment(opcode: u8, reg_mem: Operand, byte: u8, at: usize) -> Answer
     ensures { λ r. ⌜ r ≡ readBehind (registerOrMemoryAndSegment opcode) OperandSize.Word «reg_mem» byte at [] ⌝ }
 {
     match Segment::try_from_encoding(reg_field(byte)) {
@@ -72,12 +72,16 @@ pub fn register_or_memory_and_segment(opcode: u8, reg_mem: Operand, byte: u8, at
             let seg = Operand::Segment(segment);
             if d_bit(opcode) {
                 let operands = OperandSet::DestinationAndSource(seg, reg_mem);
-                return FormRead::Got(Instruction::new(Operation::MOV, operands), at);
+                return decoded(Operation::MOV, operands, at);
             }
             let operands = OperandSet::DestinationAndSource(reg_mem, seg);
-            return FormRead::Got(Instruction::new(Operation::MOV, operands), at);
+            return decoded(Operation::MOV, operands, at);
         }
-        SegmentField::Refused(e) => return FormRead::Refused(e, at),
+        SegmentField::Refused(e) => return Answer::Refused {
+            refusal: e,
+            taken: at,
+            prefixes: 0,
+        },
     }
 }
 
@@ -89,7 +93,7 @@ pub fn immediate_to_register_or_memory(
     byte: u8,
     s: &[u8],
     at: usize,
-) -> FormRead
+) -> Answer
     ensures { λ r. ⌜ r ≡ readBehind (immediateToRegisterOrMemory group) size destination byte at (drop at (now (s .entry))) ⌝ }
 {
     match read_immediate(size, s, at) {
@@ -97,14 +101,18 @@ pub fn immediate_to_register_or_memory(
             let source = Operand::Immediate(immediate);
             let operation = immediate_operation(group, reg_field(byte));
             let operands = OperandSet::DestinationAndSource(destination, source);
-            return FormRead::Got(Instruction::new(operation, operands), at + n);
+            return decoded(operation, operands, at + n);
         }
-        ImmediateRead::Refused(e, n) => return FormRead::Refused(e, at + n),
+        ImmediateRead::Refused(e, n) => return Answer::Refused {
+            refusal: e,
+            taken: at + n,
+            prefixes: 0,
+        },
     }
 }
 
 // x x x x x x x w | data | data if w = 1
-pub fn immediate_to_accumulator(operation: Operation, opcode: u8, s: &[u8], at: usize) -> FormRead
+pub fn immediate_to_accumulator(operation: Operation, opcode: u8, s: &[u8], at: usize) -> Answer
     ensures { λ r. ⌜ r ≡ readBy opcode (immediateToAccumulator operation (sizeBy opcode)) at (drop at (now (s .entry))) ⌝ }
 {
     let size = OperandSize::from_low_bit(opcode);
@@ -116,8 +124,12 @@ pub fn immediate_to_accumulator(operation: Operation, opcode: u8, s: &[u8], at: 
             ));
             let source = Operand::Immediate(immediate);
             let operands = OperandSet::DestinationAndSource(accumulator, source);
-            return FormRead::Got(Instruction::new(operation, operands), at + n);
+            return decoded(operation, operands, at + n);
         }
-        ImmediateRead::Refused(e, n) => return FormRead::Refused(e, at + n),
+        ImmediateRead::Refused(e, n) => return Answer::Refused {
+            refusal: e,
+            taken: at + n,
+            prefixes: 0,
+        },
     }
 }

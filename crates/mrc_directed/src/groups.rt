@@ -1,11 +1,10 @@
 // Groups whose operation reg names, on the operand that their ModRM names, by its byte and the position behind it.
-use mrc_forms::answers::FormRead;
+use mrc_forms::answers::decoded;
 use mrc_forms::groups::group_f6_operation;
 use mrc_forms::groups::group80_operation;
 use mrc_forms::traits::ImmediateRead;
 use mrc_forms::traits::read_immediate;
 use mrc_instruction::errors::Refusal;
-use mrc_instruction::instruction::Instruction;
 use mrc_instruction::instruction::OperandSet;
 use mrc_instruction::mrrm::reg_field;
 use mrc_instruction::operand::Immediate;
@@ -14,6 +13,7 @@ use mrc_instruction::operand::OperandSize;
 use mrc_instruction::operation::Operation;
 use mrc_instruction::read::ByteRead;
 use mrc_instruction::read::read_u8;
+use mrc_rules::Answer;
 ghost use mathlib.Core.Path.{_≡_};
 ghost use lib.ListN.{drop};
 ghost use Rattle.mrc_instruction.specs.declared.operand.OperandSize.{OperandSize};
@@ -27,7 +27,7 @@ fn widened(byte: u8) -> u16
 }
 
 // 83: a word register or memory, and one byte widened with zeros.
-pub fn group_83(destination: Operand, byte: u8, s: &[u8], at: usize) -> FormRead
+pub fn group_83(destination: Operand, byte: u8, s: &[u8], at: usize) -> Answer
     ensures { λ r. ⌜ r ≡ readBehind group83 OperandSize.Word destination byte at (drop at (now (s .entry))) ⌝ }
 {
     match read_u8(s, at) {
@@ -35,14 +35,18 @@ pub fn group_83(destination: Operand, byte: u8, s: &[u8], at: usize) -> FormRead
             let word = Operand::Immediate(Immediate::Word(widened(immediate)));
             let operation = group80_operation(reg_field(byte));
             let operands = OperandSet::DestinationAndSource(destination, word);
-            return FormRead::Got(Instruction::new(operation, operands), at + n);
+            return decoded(operation, operands, at + n);
         }
-        ByteRead::Refused(e, n) => return FormRead::Refused(e, at + n),
+        ByteRead::Refused(e, n) => return Answer::Refused {
+            refusal: e,
+            taken: at + n,
+            prefixes: 0,
+        },
     }
 }
 
 // F6 and F7, by reg: TEST with an immediate, 1 refused, and six on the register or memory alone.
-pub fn group_f6(size: OperandSize, destination: Operand, byte: u8, s: &[u8], at: usize) -> FormRead
+pub fn group_f6(size: OperandSize, destination: Operand, byte: u8, s: &[u8], at: usize) -> Answer
     ensures { λ r. ⌜ r ≡ readBehind groupF6 size destination byte at (drop at (now (s .entry))) ⌝ }
 {
     let reg = reg_field(byte);
@@ -51,15 +55,23 @@ pub fn group_f6(size: OperandSize, destination: Operand, byte: u8, s: &[u8], at:
             ImmediateRead::Got(immediate, n) => {
                 let source = Operand::Immediate(immediate);
                 let operands = OperandSet::DestinationAndSource(destination, source);
-                return FormRead::Got(Instruction::new(Operation::TEST, operands), at + n);
+                return decoded(Operation::TEST, operands, at + n);
             }
-            ImmediateRead::Refused(e, n) => return FormRead::Refused(e, at + n),
+            ImmediateRead::Refused(e, n) => return Answer::Refused {
+                refusal: e,
+                taken: at + n,
+                prefixes: 0,
+            },
         },
-        1 => return FormRead::Refused(Refusal::InvalidOpCode(1), at),
+        1 => return Answer::Refused {
+            refusal: Refusal::InvalidOpCode(1),
+            taken: at,
+            prefixes: 0,
+        },
         _ => {
             let operation = group_f6_operation(reg - 2);
             let operands = OperandSet::Destination(destination);
-            return FormRead::Got(Instruction::new(operation, operands), at);
+            return decoded(operation, operands, at);
         }
     }
 }

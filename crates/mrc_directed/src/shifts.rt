@@ -1,10 +1,9 @@
 // Shifts of the operand that a ModRM names, by its byte and the position behind it.
-use mrc_forms::answers::FormRead;
+use mrc_forms::answers::decoded;
 use mrc_forms::groups::group2_operation;
 use mrc_forms::traits::ImmediateRead;
 use mrc_forms::traits::d_bit;
 use mrc_forms::traits::read_immediate;
-use mrc_instruction::instruction::Instruction;
 use mrc_instruction::instruction::OperandSet;
 use mrc_instruction::mrrm::reg_field;
 use mrc_instruction::operand::Immediate;
@@ -12,6 +11,7 @@ use mrc_instruction::operand::Operand;
 use mrc_instruction::operand::OperandSize;
 use mrc_instruction::register::RegisterEncoding;
 use mrc_instruction::register::SizedRegisterEncoding;
+use mrc_rules::Answer;
 ghost use mathlib.Core.Path.{_≡_};
 ghost use mathlib.Core.List.{[]};
 ghost use lib.ListN.{drop};
@@ -21,7 +21,7 @@ ghost use Rattle.mrc_forms.specs.Answers.{readBehind};
 ghost use Rattle.mrc_directed.specs.Shifts.{shiftByCount};
 
 // C0 and C1: a shift by an immediate byte, whatever the size of the operand.
-pub fn shift_by_immediate(destination: Operand, byte: u8, s: &[u8], at: usize) -> FormRead
+pub fn shift_by_immediate(destination: Operand, byte: u8, s: &[u8], at: usize) -> Answer
     ensures { λ r. ⌜ ((size : OperandSize) → r ≡ readBehind shiftByImmediate size destination byte at (drop at (now (s .entry)))) ⌝ }
 {
     match read_immediate(OperandSize::Byte, s, at) {
@@ -29,9 +29,13 @@ pub fn shift_by_immediate(destination: Operand, byte: u8, s: &[u8], at: usize) -
             let count = Operand::Immediate(immediate);
             let operation = group2_operation(reg_field(byte));
             let operands = OperandSet::DestinationAndSource(destination, count);
-            return FormRead::Got(Instruction::new(operation, operands), at + n);
+            return decoded(operation, operands, at + n);
         }
-        ImmediateRead::Refused(e, n) => return FormRead::Refused(e, at + n),
+        ImmediateRead::Refused(e, n) => return Answer::Refused {
+            refusal: e,
+            taken: at + n,
+            prefixes: 0,
+        },
     }
 }
 
@@ -42,16 +46,16 @@ pub fn shift_by_count(
     destination: Operand,
     byte: u8,
     at: usize,
-) -> FormRead
+) -> Answer
     ensures { λ r. ⌜ r ≡ readBehind (shiftByCount opcode) size destination byte at [] ⌝ }
 {
     let operation = group2_operation(reg_field(byte));
     if d_bit(opcode) {
         let cl = Operand::Register(SizedRegisterEncoding(RegisterEncoding::ClCx, size));
         let operands = OperandSet::DestinationAndSource(destination, cl);
-        return FormRead::Got(Instruction::new(operation, operands), at);
+        return decoded(operation, operands, at);
     }
     let once = Operand::Immediate(Immediate::Byte(1));
     let operands = OperandSet::DestinationAndSource(destination, once);
-    return FormRead::Got(Instruction::new(operation, operands), at);
+    return decoded(operation, operands, at);
 }

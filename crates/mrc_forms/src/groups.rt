@@ -1,8 +1,10 @@
-// The operations of a group: by reg, or by bits of the opcode.
+// The operations of a group, and how far they go: by reg, or by bits of the opcode.
+use mrc_instruction::instruction::Reach;
+use mrc_instruction::operand::OperandSize;
 use mrc_instruction::operation::Operation;
 ghost use mathlib.Core.Path.{_≡_};
 ghost use Prim.Native.Nat.{_/_, _%_};
-ghost use Rattle.mrc_rules.specs.Forms.{arithmetic, shift, groupFEOperation, groupF6Operation};
+ghost use Rattle.mrc_rules.specs.Forms.{arithmetic, shift, groupFEOperation, groupFEReach, groupF6Operation};
 ghost use Rattle.mrc_forms.specs.Groups.{jumpOf, immediateOperation};
 
 // 80 to 83, by reg.
@@ -87,6 +89,34 @@ pub fn group_fe_operation(bits: u8) -> Operation
         5 => Operation::JMP,
         6 => Operation::PUSH,
         _ => Operation::PUSH,
+    }
+}
+
+// FE and FF, by reg: how far CALL and JMP go.
+pub fn group_fe_reach(size: OperandSize, bits: u8) -> Reach
+    ensures { λ r. ⌜ r ≡ groupFEReach size bits ⌝ }
+{
+    match size {
+        OperandSize::Byte => match bits {
+            0 => Reach::Neither,
+            1 => Reach::Neither,
+            2 => Reach::Near, // FE /2 CALL
+            3 => Reach::Near, // FE /3 CALL
+            4 => Reach::Near, // FE /4 JMP
+            5 => Reach::Near, // FE /5 JMP
+            6 => Reach::Neither,
+            _ => Reach::Neither,
+        },
+        OperandSize::Word => match bits {
+            0 => Reach::Neither,
+            1 => Reach::Neither,
+            2 => Reach::Near, // FF /2 CALL
+            3 => Reach::Far, // FF /3 CALL
+            4 => Reach::Near, // FF /4 JMP
+            5 => Reach::Far, // FF /5 JMP
+            6 => Reach::Neither,
+            _ => Reach::Neither,
+        },
     }
 }
 

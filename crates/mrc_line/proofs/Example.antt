@@ -1,4 +1,4 @@
--- The example, computed.
+-- The examples, computed.
 -- Assumes nothing.
 use mathlib.Core.Path.{_≡_, refl}
 use mathlib.Core.List.{_++_, map}
@@ -8,8 +8,12 @@ use Rattle.mrc_instruction.specs.Reader.{aByte, aWord}
 use Rattle.mrc_line.specs.Text.{bytes}
 use Rattle.mrc_line.specs.Line.{headText, instructionText, stepText, lineText, lineTaken, lineEnd}
 use Rattle.mrc_line.specs.Page.{linesFrom, linesOf}
-use Rattle.mrc_line.specs.Example.{image, printed}
+use Rattle.mrc_line.specs.Example.{image, printed, transfers, transfersPrinted}
 
 pub six-lines : map (lineText image) (linesOf image) ≡ map (λ t. bytes t ++ lineEnd) printed
 unfolding linesFrom lineText lineTaken headText instructionText stepText rows rowOf aByte aWord withModRM
 six-lines = refl
+
+pub transfer-lines : map (lineText transfers) (linesOf transfers) ≡ map (λ t. bytes t ++ lineEnd) transfersPrinted
+unfolding linesFrom lineText lineTaken headText instructionText stepText rows rowOf aByte aWord withModRM
+transfer-lines = refl

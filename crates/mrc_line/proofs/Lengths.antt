@@ -20,6 +20,7 @@ use Rattle.mrc_instruction.specs.declared.operand.Operand.{Operand}
 use Rattle.mrc_instruction.specs.declared.instruction.OperandSet.{OperandSet}
 use Rattle.mrc_instruction.specs.declared.instruction.Repeat.{Repeat}
 use Rattle.mrc_instruction.specs.declared.instruction.Repeated.{Repeated}
+use Rattle.mrc_instruction.specs.declared.instruction.Reach.{Reach}
 use Rattle.mrc_instruction.specs.declared.operation.Operation.{Operation}
 use Rattle.mrc_names.specs.Names.{nameOf}
 use Rattle.mrc_names.proofs.Rows.{short}
@@ -29,7 +30,7 @@ use Rattle.mrc_line.specs.Text.{bytes, hex4, pairs, padded, shown, field
 use Rattle.mrc_line.specs.declared.printed.Printed.{Printed}
 use Rattle.mrc_line.specs.Printed.{alone, beside}
 use Rattle.mrc_line.specs.Operands.{registerText, segmentText, modeText, sizeText, displacementText, immediateText, memoryText, printedText, operandText, operandsText}
-use Rattle.mrc_line.specs.Line.{headText, repeatText, instructionText, bodyText, stepTaken, stepText, lineText, longest, budget}
+use Rattle.mrc_line.specs.Line.{headText, repeatText, reachText, instructionText, bodyText, stepTaken, stepText, lineText, longest, budget}
 use Rattle.mrc_line.proofs.Put.{pairs-length}
 
 register : (r : RegisterEncoding) (size : OperandSize) → length (registerText r size) ≡ 2
@@ -116,11 +117,17 @@ repeated Repeated.None = lit≤ tt
 repeated (Repeated.Some Repeat.Equal) = lit≤ tt
 repeated (Repeated.Some Repeat.NotEqual) = lit≤ tt
 
-body : (start b : ℕ) (a : Answer) → length (bodyText start b a) ≤ 55
+reach : (r : Reach) → length (reachText r) ≤ 4
+reach Reach.Neither = lit≤ tt
+reach Reach.Near = lit≤ tt
+reach Reach.Far = lit≤ tt
+
+body : (start b : ℕ) (a : Answer) → length (bodyText start b a) ≤ 59
 unfolding instructionText
 body start b (Answer.Decoded i n p) =
     let o = operandsText (i .operation) start n (i .operands) in
-    omega (arith, repeated (i .repeat), short (i .operation), operands (i .operation) start n (i .operands), length-append (repeatText (i .repeat)) (nameOf (i .operation) ++ o), length-append (nameOf (i .operation)) o)
+    let f = reachText (i .reach) in
+    omega (arith, repeated (i .repeat), short (i .operation), reach (i .reach), operands (i .operation) start n (i .operands), length-append (repeatText (i .repeat)) (nameOf (i .operation) ++ (f ++ o)), length-append (nameOf (i .operation)) (f ++ o), length-append f o)
 body start b (Answer.Refused e n p) = lit≤ tt
 
 step : (s : List ℕ) (at : ℕ) (a : Answer) → length (stepText s at a) ≤ longest

@@ -5,25 +5,32 @@ use mathlib.Core.List.{List, [], _∷_, _++_, map}
 use Prim.Native.Nat.{ℕ, _*_, _<_, _≤_}
 use native.Mathlib.Nat.{le-trans}
 use lib.IntN.{pos, negsuc}
-use lib.ListN.{length, drop}
+use lib.ListN.{length, take, drop}
 use Rattle.mrc_instruction.specs.declared.errors.Refusal.{Refusal}
 use Rattle.mrc_instruction.specs.declared.operand.Displacement.{Displacement}
+use Rattle.mrc_instruction.specs.declared.instruction.Instruction.{Instruction}
 use Rattle.mrc_instruction.specs.declared.operation.Operation.{Operation}
 use Rattle.mrc_instruction.specs.declared.operation.Operation.the-variants.{RET}
 use Rattle.mrc_instruction.specs.Promise.{ExactlyOne}
+use Rattle.mrc_names.specs.Names.{nameOf}
+use Rattle.mrc_rules.specs.declared.Answer.{Answer}
+use Rattle.mrc_rules.specs.Prefixes.{tailOf}
+use Rattle.mrc_rules.specs.Decode.{decodeAt}
+use Rattle.mrc_rules.specs.Reaches.{reachOf}
 use Rattle.mrc_line.specs.declared.line.LineAnswer.{LineAnswer}
 use Rattle.mrc_line.specs.declared.page.Page.{Page}
 use Rattle.mrc_line.specs.declared.printed.Printed.{Printed}
 use Rattle.mrc_line.specs.Text.{bytes, hex2}
 use Rattle.mrc_line.specs.Target.{offsets, targetOf}
 use Rattle.mrc_line.specs.Printed.{alone}
-use Rattle.mrc_line.specs.Operands.{printedText}
-use Rattle.mrc_line.specs.Line.{headText, lineText, lineEnd, longest, Listed}
+use Rattle.mrc_line.specs.Operands.{printedText, operandsText}
+use Rattle.mrc_line.specs.Line.{headText, repeatText, reachText, lineText, lineEnd, longest, budget, Listed}
 use Rattle.mrc_line.specs.Page.{linesOf, textOf, bytesOf, takenOf, pageOf, pagesFrom, Paged}
-use Rattle.mrc_line.specs.Example.{image, printed}
+use Rattle.mrc_line.specs.Example.{image, printed, transfers, transfersPrinted}
 use Rattle.mrc_line.proofs.Settled as Settled
 use Rattle.mrc_line.proofs.Lengths as Lengths
 use Rattle.mrc_line.proofs.Returns as Returns
+use Rattle.mrc_line.proofs.Reaches as Reaches
 use Rattle.mrc_line.proofs.Lines as Lines
 use Rattle.mrc_line.proofs.Pages as Pages
 use Rattle.mrc_line.proofs.Example as Example
@@ -52,8 +59,9 @@ page-short image at room = let k = Pages.page-short image at room in (k .text, k
 -- RET with a word, C2 or CA, lists the word as it stands behind the opcode, the high byte first, wherever it is
 pub returns-listed :
     (image : List ℕ) (at low high : ℕ) (l : List ℕ) → low < 256 → high < 256 →
-    let text : ℕ → List ℕ = λ opcode. headText at (opcode ∷ low ∷ high ∷ []) ++ (bytes "RET " ++ (hex2 high ++ (hex2 low ++ lineEnd))) in
-    (drop at image ≡ 0xC2 ∷ low ∷ high ∷ l → lineText image at ≡ text 0xC2) × (drop at image ≡ 0xCA ∷ low ∷ high ∷ l → lineText image at ≡ text 0xCA)
+    let text : List ℕ → ℕ → List ℕ = λ name opcode. headText at (opcode ∷ low ∷ high ∷ []) ++ (name ++ (hex2 high ++ (hex2 low ++ lineEnd))) in
+    (drop at image ≡ 0xC2 ∷ low ∷ high ∷ l → lineText image at ≡ text (bytes "RET ") 0xC2)
+    × (drop at image ≡ 0xCA ∷ low ∷ high ∷ l → lineText image at ≡ text (bytes "RET FAR ") 0xCA)
 returns-listed image at low high l h k = (Returns.near image at low high l h k, Returns.far image at low high l h k)
 
 -- RET's number as a word, whatever the place: none, a byte, and words of either sign
@@ -67,6 +75,14 @@ returns-counted start taken = refl
 pub others-have-targets :
     (o : Operation) → (o ≡ RET → ⊥) → (start taken : ℕ) (d : Displacement) → alone o start taken d ≡ Printed.Word (targetOf start taken d)
 others-have-targets = Returns.targets
+
+-- FAR stands between name and operands exactly where the bytes say so, by the first byte behind the prefixes and by reg
+pub far-printed :
+    (image : List ℕ) (at : ℕ) (i : Instruction) (n p : ℕ) → decodeAt image at budget ≡ Answer.Decoded i n p →
+    lineText image at
+    ≡ headText at (take n (drop at image))
+    ++ ((repeatText (i .repeat) ++ (nameOf (i .operation) ++ (reachText (reachOf (tailOf (drop at image))) ++ operandsText (i .operation) at n (i .operands)))) ++ lineEnd)
+far-printed = Reaches.by-the-bytes
 
 -- the lines of an image account for all its bytes, for each once
 pub each-byte-once : (image : List ℕ) → bytesOf image (linesOf image) ≡ image
@@ -86,6 +102,9 @@ pub pages-joined-at :
     pagesFrom (length image) image 0 room ≡ textOf image (linesOf image)
 pages-joined-at image room h k = Pages.pages-joined image room h (λ at l. le-trans (Lengths.line-longest image at) k)
 
--- the example's lines
+-- the examples' lines
 pub example : map (lineText image) (linesOf image) ≡ map (λ t. bytes t ++ lineEnd) printed
 example = Example.six-lines
+
+pub transfer-example : map (lineText transfers) (linesOf transfers) ≡ map (λ t. bytes t ++ lineEnd) transfersPrinted
+transfer-example = Example.transfer-lines

@@ -1,7 +1,7 @@
 -- What stands behind RET is printed as its own word, and every other displacement that stands alone as its target.
 -- Assumes nothing.
 use mathlib.Core.Path.{_≡_, refl, sym, ap, _∙_}
-use mathlib.Core.List.{List, [], _∷_, _++_}
+use mathlib.Core.List.{List, [], _∷_, _++_, append-assoc}
 use Prim.Native.Nat.{ℕ, _+_, _*_, _/_, _%_, _<_, _≤_}
 use native.Mathlib.Omega.{arith}
 use borrow.Author.Tests.{ne-eqb, le-leb}
@@ -9,17 +9,18 @@ use lib.ListN.{length, take, drop, length-drop}
 use Rattle.mrc_instruction.specs.declared.operand.Displacement.{Displacement}
 use Rattle.mrc_instruction.specs.declared.operand.Immediate.{Immediate}
 use Rattle.mrc_instruction.specs.declared.operand.Operand.{Operand}
-use Rattle.mrc_instruction.specs.declared.instruction.OperandSet.{OperandSet}
+use Rattle.mrc_instruction.specs.declared.instruction.Reach.the-variants.{Near, Far}
 use Rattle.mrc_instruction.specs.declared.instruction.Instruction.{Instruction}
 use Rattle.mrc_instruction.specs.declared.operation.Operation.{Operation}
 use Rattle.mrc_instruction.specs.declared.operation.Operation.the-variants.{RET}
-use Rattle.mrc_instruction.specs.Instruction.{plain}
+use Rattle.mrc_instruction.specs.Instruction.{reached}
 use Rattle.mrc_instruction.specs.Operation.{operationAt, operationNumber}
 use Rattle.mrc_instruction.specs.Signed.{signedWord}
 use Rattle.mrc_instruction.specs.Reader.{aByte, aWord}
 use Rattle.mrc_instruction.proofs.Operations.{operations-both-ways}
 use Rattle.mrc_instruction.proofs.Complement.{unsigned-back}
 use Rattle.mrc_rules.specs.declared.Answer.{Answer}
+use Rattle.mrc_rules.specs.Forms.{one}
 use Rattle.mrc_rules.specs.Table.{rows, rowOf}
 use Rattle.mrc_rules.specs.Decode.{decodeAt}
 use Rattle.mrc_line.specs.declared.printed.Printed.{Printed}
@@ -46,30 +47,31 @@ module _ (s : List ℕ) (at low high : ℕ) (l : List ℕ) (low-byte : low < 256
   abbrev There : ℕ → Type 0
   There opcode = drop at s ≡ opcode ∷ low ∷ high ∷ l
 
-  abbrev text : ℕ → List ℕ
-  text opcode = headText at (opcode ∷ low ∷ high ∷ []) ++ (bytes "RET " ++ (hex2 high ++ (hex2 low ++ lineEnd)))
+  abbrev text : List ℕ → ℕ → List ℕ
+  text name opcode = headText at (opcode ∷ low ∷ high ∷ []) ++ (name ++ (hex2 high ++ (hex2 low ++ lineEnd)))
 
-  -- an instruction of three bytes that prints as RET and its word
+  -- an instruction of three bytes that prints as a name and its word
   listed :
-      (opcode : ℕ) (i : Instruction) → There opcode → decodeAt s at budget ≡ Answer.Decoded i 3 0 →
-      instructionText at 3 i ≡ bytes "RET " ++ hex4 (low + 256 * high) → lineText s at ≡ text opcode
+      (name : List ℕ) (opcode : ℕ) (i : Instruction) → There opcode → decodeAt s at budget ≡ Answer.Decoded i 3 0 →
+      instructionText at 3 i ≡ name ++ hex4 (low + 256 * high) → lineText s at ≡ text name opcode
   unfolding lineText stepText
-  listed opcode i there decoded printed =
+  listed name opcode i there decoded printed =
       ap (stepText s at) decoded ∙ ap (λ (x : List ℕ). headText at (take 3 x) ++ (instructionText at 3 i ++ lineEnd)) there
-      ∙ ap (λ (x : List ℕ). headText at (opcode ∷ low ∷ high ∷ []) ++ (x ++ lineEnd)) (printed ∙ ap (λ (x : List ℕ). bytes "RET " ++ x) (digits low high low-byte))
+      ∙ ap (λ (x : List ℕ). headText at (opcode ∷ low ∷ high ∷ []) ++ (x ++ lineEnd)) (printed ∙ ap (λ (x : List ℕ). name ++ x) (digits low high low-byte))
+      ∙ ap (λ (x : List ℕ). headText at (opcode ∷ low ∷ high ∷ []) ++ x) (append-assoc name (hex2 high ++ hex2 low) lineEnd)
 
   within : (opcode : ℕ) → There opcode → at ≤ length s
   within opcode there = omega (arith, length-drop at s, ap length there)
 
-  pub near : There 0xC2 → lineText s at ≡ text 0xC2
+  pub near : There 0xC2 → lineText s at ≡ text (bytes "RET ") 0xC2
   unfolding instructionText rows rowOf aByte aWord
   near there =
-      listed 0xC2 (plain RET (OperandSet.Destination (Operand.Displacement (Displacement.Word (signedWord (low + 256 * high)))))) there
+      listed (bytes "RET ") 0xC2 (reached Near (one RET (Operand.Displacement (Displacement.Word (signedWord (low + 256 * high)))))) there
       (rw (le-leb at (length s) (within 0xC2 there)) (rw there refl))
       (ap (λ (w : ℕ). bytes "RET " ++ hex4 w) (unsigned-back 32768 65535 refl (low + 256 * high) (omega arith)))
 
-  pub far : There 0xCA → lineText s at ≡ text 0xCA
+  pub far : There 0xCA → lineText s at ≡ text (bytes "RET FAR ") 0xCA
   unfolding instructionText rows rowOf aByte aWord
   far there =
-      listed 0xCA (plain RET (OperandSet.Destination (Operand.Immediate (Immediate.Word (low + 256 * high))))) there
+      listed (bytes "RET FAR ") 0xCA (reached Far (one RET (Operand.Immediate (Immediate.Word (low + 256 * high))))) there
       (rw (le-leb at (length s) (within 0xCA there)) (rw there refl)) refl

@@ -1,4 +1,4 @@
--- Rule 16.3: thirteen bytes, and the six lines that they list as.
+-- Rules 16.3 and 16.4: thirteen bytes, and the six lines that they list as; and calls, jumps and returns, near and far.
 use mathlib.Core.List.{List, [], _∷_}
 use Prim.Native.Nat.{ℕ}
 use Prim.Native.String.{String}
@@ -14,4 +14,42 @@ printed =
     ∷ "0008  83 C0 FF               ADD AX, 00FF"
     ∷ "000B  60                     DB 60"
     ∷ "000C  8B                     DB 8B"
+    ∷ []
+
+abbrev pub transfers : List ℕ
+transfers =
+    0x9A ∷ 0x78 ∷ 0x56 ∷ 0x34 ∷ 0x12
+    ∷ 0xEA ∷ 0x78 ∷ 0x56 ∷ 0x34 ∷ 0x12
+    ∷ 0xCA ∷ 0x04 ∷ 0x00
+    ∷ 0xCB
+    ∷ 0xC2 ∷ 0x04 ∷ 0x00
+    ∷ 0xC3
+    ∷ 0xFF ∷ 0x1F
+    ∷ 0xFF ∷ 0x17
+    ∷ 0xFF ∷ 0x2F
+    ∷ 0xFF ∷ 0x27
+    ∷ 0xFE ∷ 0x1F
+    ∷ 0xE8 ∷ 0x00 ∷ 0x00
+    ∷ 0xEB ∷ 0xFE
+    ∷ 0xF3 ∷ 0x26 ∷ 0xFF ∷ 0x6E ∷ 0x05
+    ∷ 0xCF
+    ∷ []
+
+abbrev pub transfersPrinted : List String
+transfersPrinted =
+    "0000  9A 78 56 34 12         CALL FAR 1234:5678"
+    ∷ "0005  EA 78 56 34 12         JMP FAR 1234:5678"
+    ∷ "000A  CA 04 00               RET FAR 0004"
+    ∷ "000D  CB                     RET FAR"
+    ∷ "000E  C2 04 00               RET 0004"
+    ∷ "0011  C3                     RET"
+    ∷ "0012  FF 1F                  CALL FAR WORD DS:[BX]"
+    ∷ "0014  FF 17                  CALL WORD DS:[BX]"
+    ∷ "0016  FF 2F                  JMP FAR WORD DS:[BX]"
+    ∷ "0018  FF 27                  JMP WORD DS:[BX]"
+    ∷ "001A  FE 1F                  CALL BYTE DS:[BX]"
+    ∷ "001C  E8 00 00               CALL 001F"
+    ∷ "001F  EB FE                  JMP 001F"
+    ∷ "0021  F3 26 FF 6E 05         REPE JMP FAR WORD ES:[BP+05]"
+    ∷ "0026  CF                     IRET"
     ∷ []

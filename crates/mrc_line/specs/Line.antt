@@ -7,6 +7,7 @@ use lib.Dec.{ltb, eqb}
 use lib.ListN.{length, getD, take, drop}
 use Rattle.mrc_instruction.specs.declared.instruction.Repeat.{Repeat}
 use Rattle.mrc_instruction.specs.declared.instruction.Repeated.{Repeated}
+use Rattle.mrc_instruction.specs.declared.instruction.Reach.{Reach}
 use Rattle.mrc_instruction.specs.declared.instruction.Instruction.{Instruction}
 use Rattle.mrc_instruction.specs.declared.errors.Refusal.{Refusal}
 use Rattle.mrc_instruction.specs.Values.{Values, carrying, refusedWith}
@@ -28,13 +29,20 @@ repeatText Repeated.None = []
 repeatText (Repeated.Some Repeat.Equal) = bytes "REPE "
 repeatText (Repeated.Some Repeat.NotEqual) = bytes "REPNE "
 
+-- rule 12.2: what is far says so behind its name
+abbrev pub reachText : Reach → List ℕ
+reachText Reach.Neither = []
+reachText Reach.Near = []
+reachText Reach.Far = bytes " FAR"
+
 -- rule 12.2: LF
 abbrev pub lineEnd : List ℕ
 lineEnd = 10 ∷ []
 
--- rule 12.2: repeat, name and operands of an instruction that starts at an offset and takes so many bytes
+-- rule 12.2: repeat, name, FAR and operands of an instruction that starts at an offset and takes so many bytes
 unfoldable pub instructionText : ℕ → ℕ → Instruction → List ℕ
-instructionText start taken i = repeatText (i .repeat) ++ (nameOf (i .operation) ++ operandsText (i .operation) start taken (i .operands))
+instructionText start taken i =
+    repeatText (i .repeat) ++ (nameOf (i .operation) ++ (reachText (i .reach) ++ operandsText (i .operation) start taken (i .operands)))
 
 -- rule 12.7: a byte at which nothing decodes
 abbrev pub dbText : ℕ → List ℕ
@@ -61,7 +69,7 @@ stepText s at a = headText at (take (stepTaken a) (drop at s)) ++ (bodyText at (
 
 -- rule 12.8: the most bytes that a line has, whatever the record
 abbrev pub longest : ℕ
-longest = 85
+longest = 89
 
 -- rule 12.1: the budget of every line
 abbrev pub budget : ℕ

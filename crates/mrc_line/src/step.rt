@@ -8,6 +8,7 @@ use crate::text::put_field;
 use crate::text::put_hex2;
 use crate::text::put_spaces;
 use mrc_instruction::instruction::Instruction;
+use mrc_instruction::instruction::Reach;
 use mrc_instruction::instruction::Repeat;
 use mrc_instruction::instruction::Repeated;
 use mrc_rules::Answer;
@@ -17,7 +18,7 @@ ghost use lib.ListN.{length};
 ghost use Rattle.mrc_names.specs.Names.{nameTable};
 ghost use Rattle.mrc_line.specs.Target.{offsets};
 ghost use Rattle.mrc_line.specs.Text.{Put};
-ghost use Rattle.mrc_line.specs.Line.{headText, repeatText, instructionText, dbText, bodyText, stepText, stepTaken, longest};
+ghost use Rattle.mrc_line.specs.Line.{headText, repeatText, reachText, instructionText, dbText, bodyText, stepText, stepTaken, longest};
 
 fn least(a: usize, b: usize) -> usize
     ensures { λ r. ⌜ r ≡ min a b ⌝ }
@@ -51,6 +52,18 @@ fn put_repeat(buf: &mut [u8], at: usize, repeated: Repeated) -> usize
     }
 }
 
+// What stands behind the name of a call, a jump or a return that is far.
+fn put_reach(buf: &mut [u8], at: usize, reach: Reach) -> usize
+    requires { ⌜ at + 4 ≤ length (now buf) ⌝ }
+    ensures { λ r. ⌜ Put 4 (now (buf .entry)) at (reachText reach) (now (buf .exit)) r ⌝ }
+{
+    match reach {
+        Reach::Neither => at,
+        Reach::Near => at,
+        Reach::Far => put_bytes(buf, at, b" FAR"),
+    }
+}
+
 // The instruction that starts at an offset and takes so many bytes.
 fn put_instruction(
     buf: &mut [u8],
@@ -60,15 +73,17 @@ fn put_instruction(
     taken: u16,
     instruction: Instruction,
 ) -> usize
-    requires { ⌜ (at + 55 ≤ length (now buf)) × (now names ≡ nameTable) ⌝ }
-    ensures { λ r. ⌜ Put 55 (now (buf .entry)) at (instructionText start taken instruction) (now (buf .exit)) r ⌝ }
+    requires { ⌜ (at + 59 ≤ length (now buf)) × (now names ≡ nameTable) ⌝ }
+    ensures { λ r. ⌜ Put 59 (now (buf .entry)) at (instructionText start taken instruction) (now (buf .exit)) r ⌝ }
 {
+    let reach = instruction.reach;
     let repeat = instruction.repeat;
     let operation = instruction.operation;
     let operands = instruction.operands;
     let a = put_repeat(buf, at, repeat);
     let b = put_name(buf, a, names, operation);
-    put_operands(buf, b, operation, start, taken, operands)
+    let c = put_reach(buf, b, reach);
+    put_operands(buf, c, operation, start, taken, operands)
 }
 
 // A byte that is not decoded.
@@ -107,8 +122,8 @@ fn put_body(
     byte: u8,
     answer: Answer,
 ) -> usize
-    requires { ⌜ (at + 55 ≤ length (now buf)) × (now names ≡ nameTable) × (stepTaken answer < offsets) ⌝ }
-    ensures { λ r. ⌜ Put 55 (now (buf .entry)) at (bodyText start byte answer) (now (buf .exit)) r ⌝ }
+    requires { ⌜ (at + 59 ≤ length (now buf)) × (now names ≡ nameTable) × (stepTaken answer < offsets) ⌝ }
+    ensures { λ r. ⌜ Put 59 (now (buf .entry)) at (bodyText start byte answer) (now (buf .exit)) r ⌝ }
 {
     match answer {
         Answer::Decoded {

@@ -14,7 +14,7 @@ ghost use Rattle.mrc_line.specs.Line.{Listed};
 // The prefix bytes that a line may have, and the room that any line fits into.
 const BUDGET: u8 = 15;
 
-const LONGEST: usize = 85;
+const LONGEST: usize = 89;
 
 // Where `out` may be too short, the line is made in a buffer of the function's own first, and all of it is copied or none.
 pub fn write_line(out: &mut [u8], names: &[[u8; 6]; 97], image: &[u8], at: usize) -> LineAnswer

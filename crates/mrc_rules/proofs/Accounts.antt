@@ -1,4 +1,4 @@
--- What the second accounts say of a row: the places of its operands, its operation, its length and which test of reg it has. By the first
+-- What the second accounts say of a row: the places of its operands, its operation, its length, how far it goes and which test of reg it has. By the first
 -- byte that is what their tables say: each is computed over the 256 rows.
 -- Assumes nothing.
 use mathlib.Core.Path.{_≡_, refl, ap, sym, _∙_}
@@ -13,12 +13,14 @@ use Rattle.mrc_instruction.specs.declared.register.RegisterEncoding.the-variant
 use Rattle.mrc_instruction.specs.declared.operand.OperandSize.{OperandSize}
 use Rattle.mrc_instruction.specs.declared.operand.OperandSize.the-variants.{Byte, Word}
 use Rattle.mrc_instruction.specs.declared.operation.Operation.the-variants.{ESC, IN, MOV, OUT, POP, XCHG}
-use Rattle.mrc_rules.specs.Forms.{Row, _⦂_, bare, prefix, invalid, rmReg, regRm, immediateToAccumulator, onSegment, onRegister, onDisplacement, group80, group83, pop, rmSegment, segmentRm, exchange, far, accDirect, directAcc, registerAndImmediate, shiftByImmediate, shiftByOne, shiftByCl, onImmediate, groupC6, escape, inPort, outPort, inDx, outDx, groupF6, groupFE}
+use Rattle.mrc_rules.specs.Forms.{Row, _⦂_, bare, prefix, invalid, rmReg, regRm, immediateToAccumulator, onSegment, onRegister, onDisplacement, group80, group83, pop, rmSegment, segmentRm, exchange, far, accDirect, directAcc, registerAndImmediate, shiftByImmediate, shiftByOne, shiftByCl, onImmediate, groupC6, escape, inPort, outPort, inDx, outDx, groupF6, groupFE, reaching}
 use Rattle.mrc_rules.specs.Table.{rows, rowOf}
 use Rattle.mrc_rules.specs.Prefixes.{isPrefix}
 use Rattle.mrc_rules.specs.Operands.{RM, REG, SEGREG, IMMED, ZERO16, MEM, REL, FAR, THE, SEG, ONE, AX, DX, Places, nothing, only, _⟵_, test, places, byteAt, regAt}
 use Rattle.mrc_rules.specs.Operations.{Mnemonic, the, byReg, mnemonics}
 use Rattle.mrc_rules.specs.Operations as op
+use Rattle.mrc_rules.specs.Reaches.{Distance, always, neither, distances}
+use Rattle.mrc_rules.specs.Reaches as reaches
 use Rattle.mrc_rules.specs.Lengths.{Extra, fixed, modRM, tested, extras}
 use Rattle.mrc_rules.specs.Refusals.{Verdict, read, refused, isUnread, isPop, isGroupF6, isSegmentMove, byOpcode}
 
@@ -31,9 +33,18 @@ pub record Account : Type 0 where
   pub name : Mnemonic
   pub extra : Extra
   pub bar : Bar
+  pub distance : Distance
 
 abbrev pub account : Places → Mnemonic → Extra → Bar → Account
-account q o e t = record { places = q; name = o; extra = e; bar = t }
+account q o e t = record { places = q; name = o; extra = e; bar = t; distance = neither }
+
+-- the same, with how far it goes
+abbrev pub distant : Distance → Account → Account
+distant d c = record { places = c .places; name = c .name; extra = c .extra; bar = c .bar; distance = d }
+
+abbrev pub inGroupFE : OperandSize → Distance
+inGroupFE Byte = reaches.groupFE
+inGroupFE Word = reaches.groupFF
 
 abbrev pub bytesIn : OperandSize → ℕ
 bytesIn Byte = 1
@@ -55,7 +66,7 @@ accountOf (shiftByOne ⦂ size) = account (RM size ⟵ ONE) (byReg op.shifts) (m
 accountOf (shiftByCl ⦂ size) = account (RM size ⟵ THE ClCx size) (byReg op.shifts) (modRM 0) free
 accountOf (groupC6 ⦂ size) = account (RM size ⟵ IMMED size) (the MOV) (modRM (bytesIn size)) free
 accountOf (groupF6 ⦂ size) = account (test (RM size) (IMMED size)) (byReg op.groupF6) (tested (bytesIn size)) grouped
-accountOf (groupFE ⦂ size) = account (only (RM size)) (byReg op.groupFE) (modRM 0) free
+accountOf (groupFE ⦂ size) = distant (inGroupFE size) (account (only (RM size)) (byReg op.groupFE) (modRM 0) free)
 accountOf (immediateToAccumulator o size) = account (THE AlAx size ⟵ IMMED size) (the o) (fixed (bytesIn size)) free
 accountOf (onSegment o s) = account (only (SEG s)) (the o) (fixed 0) free
 accountOf (onRegister o r) = account (only (THE r Word)) (the o) (fixed 0) free
@@ -71,6 +82,7 @@ accountOf (inPort size) = account (THE AlAx size ⟵ IMMED Byte) (the IN) (fixed
 accountOf (outPort size) = account (IMMED Byte ⟵ THE AlAx size) (the OUT) (fixed 1) free
 accountOf (inDx size) = account (THE AlAx size ⟵ DX) (the IN) (fixed 0) free
 accountOf (outDx size) = account (DX ⟵ THE AlAx size) (the OUT) (fixed 0) free
+accountOf (reaching reach row) = distant (always reach) (accountOf row)
 
 -- what a test decides, by the bytes from the opcode on
 abbrev pub verdictBy : Bar → List ℕ → Verdict
@@ -109,6 +121,10 @@ pub same-lengths : map (λ r. accountOf r .extra) rows ≡ extras
 unfolding rows extras
 same-lengths = refl
 
+pub same-distances : map (λ r. accountOf r .distance) rows ≡ distances
+unfolding rows distances
+same-distances = refl
+
 pub row-places : (opcode : ℕ) → accountOf (rowOf opcode) .places ≡ getD places opcode nothing
 row-places = row-at (λ r. accountOf r .places) places same-places
 
@@ -117,6 +133,9 @@ row-name = row-at (λ r. accountOf r .name) mnemonics same-names
 
 pub row-extra : (opcode : ℕ) → accountOf (rowOf opcode) .extra ≡ getD extras opcode (fixed 0)
 row-extra = row-at (λ r. accountOf r .extra) extras same-lengths
+
+pub row-distance : (opcode : ℕ) → accountOf (rowOf opcode) .distance ≡ getD distances opcode neither
+row-distance = row-at (λ r. accountOf r .distance) distances same-distances
 
 -- the tests, by the first byte
 countFrom : ℕ → ℕ → List ℕ

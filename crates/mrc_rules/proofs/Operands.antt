@@ -1,7 +1,7 @@
--- The operands of a decode are those that specs/Operands finds by the place of their bits, and its operation is the one that specs/Operations
--- finds by the first byte and reg: of a tail, then under the prefixes of a decode, whose first repeat it has.
+-- The operands of a decode are those that specs/Operands finds by the place of their bits, and its operation and how far it goes are what
+-- specs/Operations and specs/Reaches find by the first byte and reg: of a tail, then under the prefixes of a decode, whose first repeat it has.
 -- Assumes nothing.
-use mathlib.Core.Path.{_≡_, refl, ap, subst}
+use mathlib.Core.Path.{_≡_, refl, sym, ap, subst}
 use mathlib.Core.Bool.{Bool, true, false, cond}
 use mathlib.Core.List.{List, [], _∷_}
 use mathlib.Core.Option.{Option, none, some}
@@ -19,12 +19,14 @@ use Rattle.mrc_rules.specs.Prefixes.{runOf, tailOf, first, isOverride, i
 use Rattle.mrc_rules.specs.Decode.{tail, resultOf, together, answer, decodeBy, decodeAt, rules}
 use Rattle.mrc_rules.specs.Operands.{operandsOf, inSegments, underFirst}
 use Rattle.mrc_rules.specs.Operations.{operationOf}
+use Rattle.mrc_rules.specs.Reaches.{reachOf}
 use Rattle.mrc_rules.proofs.Tails.{Comes, tail-comes}
 
 -- of what a tail came to
 pub record InPlace (l : List ℕ) (i : Tail) (n : ℕ) : Type 0 where
   pub operands : i .operands ≡ operandsOf (take n l)
   pub operation : operationOf l ≡ some (i .operation)
+  pub reach : reachOf l ≡ i .reach
 
 abbrev TailPlaced : List ℕ → Outcome Tail → Type 0
 TailPlaced l (got i n) = InPlace l i n
@@ -35,13 +37,14 @@ tail-placed [] = tt
 tail-placed (opcode ∷ l) = go (tail rules (opcode ∷ l)) (tail-comes opcode l)
   where
     go : (o : Outcome Tail) → Comes (opcode ∷ l) o → TailPlaced (opcode ∷ l) o
-    go (got i n) h = record { operands = h .operands; operation = h .operation }
+    go (got i n) h = record { operands = h .operands; operation = h .operation; reach = h .reach }
     go (stopped e n) h = tt
 
 -- of a decode's answer
 pub record Placed (l : List ℕ) (i : Instruction) (n : ℕ) : Type 0 where
   pub operands : i .operands ≡ underFirst (first isOverride (runOf l)) (operandsOf (take n (tailOf l)))
   pub operation : operationOf (tailOf l) ≡ some (i .operation)
+  pub reach : i .reach ≡ reachOf (tailOf l)
   pub repeat : i .repeat ≡ repeatOf (first isRepeat (runOf l))
 
 abbrev AnswerPlaced : List ℕ → Answer → Type 0
@@ -50,19 +53,19 @@ AnswerPlaced l (Answer.Refused e n p) = Unit {0}
 
 -- under an override
 under-placed : (l : List ℕ) (o : ℕ) (i : Tail) (ops was : OperandSet) (n p : ℕ) → ops ≡ was → operationOf (tailOf l) ≡ some (i .operation)
-    → first isOverride (runOf l) ≡ some o → operandsOf (take (n - p) (tailOf l)) ≡ was
+    → reachOf (tailOf l) ≡ i .reach → first isOverride (runOf l) ≡ some o → operandsOf (take (n - p) (tailOf l)) ≡ was
     → AnswerPlaced l (answer (under o (repeatOf (first isRepeat (runOf l))) i ops) n p)
-under-placed l o i OperandSet.None was n p e q f h = tt
-under-placed l o i (OperandSet.Destination d) was n p e q f h =
-    record { operands = rw (f, h) (ap (inSegments (overrideSegment o)) e); operation = q; repeat = refl }
-under-placed l o i (OperandSet.DestinationAndSource d s) was n p e q f h =
-    record { operands = rw (f, h) (ap (inSegments (overrideSegment o)) e); operation = q; repeat = refl }
+under-placed l o i OperandSet.None was n p e q r f h = tt
+under-placed l o i (OperandSet.Destination d) was n p e q r f h =
+    record { operands = rw (f, h) (ap (inSegments (overrideSegment o)) e); operation = q; reach = sym r; repeat = refl }
+under-placed l o i (OperandSet.DestinationAndSource d s) was n p e q r f h =
+    record { operands = rw (f, h) (ap (inSegments (overrideSegment o)) e); operation = q; reach = sym r; repeat = refl }
 
 result-placed : (l : List ℕ) (o : Option ℕ) (t : Outcome Tail) (n p : ℕ) → n - p ≡ takenBy t → first isOverride (runOf l) ≡ o → TailPlaced (tailOf l) t
     → AnswerPlaced l (answer (resultOf rules o (first isRepeat (runOf l)) t) n p)
-result-placed l none (got i k) n p c f h = record { operands = rw (f, c) (h .operands); operation = h .operation; repeat = refl }
+result-placed l none (got i k) n p c f h = record { operands = rw (f, c) (h .operands); operation = h .operation; reach = sym (h .reach); repeat = refl }
 result-placed l none (stopped e k) n p c f h = tt
-result-placed l (some o) (got i k) n p c f h = under-placed l o i (i .operands) _ n p (h .operands) (h .operation) f (rw c refl)
+result-placed l (some o) (got i k) n p c f h = under-placed l o i (i .operands) _ n p (h .operands) (h .operation) (h .reach) f (rw c refl)
 result-placed l (some o) (stopped e k) n p c f h = tt
 
 decode-placed : (b : ℕ) (l : List ℕ) → AnswerPlaced l (decodeBy rules b l)
@@ -91,6 +94,9 @@ destination-and-source s at b i n p e = subst (AnswerPlaced (drop at s)) e (at-p
 pub operation-named : (s : List ℕ) (at b : ℕ) (i : Instruction) (n p : ℕ) → decodeAt s at b ≡ Answer.Decoded i n p
     → operationOf (tailOf (drop at s)) ≡ some (i .operation)
 operation-named s at b i n p e = subst (AnswerPlaced (drop at s)) e (at-placed s at b) .operation
+
+pub near-or-far : (s : List ℕ) (at b : ℕ) (i : Instruction) (n p : ℕ) → decodeAt s at b ≡ Answer.Decoded i n p → i .reach ≡ reachOf (tailOf (drop at s))
+near-or-far s at b i n p e = subst (AnswerPlaced (drop at s)) e (at-placed s at b) .reach
 
 pub first-repeat : (s : List ℕ) (at b : ℕ) (i : Instruction) (n p : ℕ) → decodeAt s at b ≡ Answer.Decoded i n p
     → i .repeat ≡ repeatOf (first isRepeat (runOf (drop at s)))

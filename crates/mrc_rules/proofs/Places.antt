@@ -1,5 +1,5 @@
 -- The pieces of an instruction's bytes, and what they make by their places: ModRM, immediates and displacements. A row is walked along with
--- what its account says of operands, operation, length and refusal.
+-- what its account says of operands, operation, length, distance and refusal.
 -- Assumes nothing.
 use mathlib.Core.Path.{_≡_, refl, ap, sym, subst, _∙_}
 use mathlib.Core.Bool.{Bool, true, false, cond}
@@ -25,6 +25,7 @@ use Rattle.mrc_instruction.specs.Mrrm.{registerOrMemory, modRM, aModRM, regFiel
 use Rattle.mrc_rules.specs.Forms.{Tail, anImmediate, aDisplacement, register, rm, reg, segmentReg}
 use Rattle.mrc_rules.specs.Operands.{Place, RM, REG, SEGREG, IMMED, REL, byteAt, lastByte, lastWord, regAt, named, operandAt, operandsAt}
 use Rattle.mrc_rules.specs.Operations.{nameAt}
+use Rattle.mrc_rules.specs.Reaches.{reachAt}
 use Rattle.mrc_rules.specs.Lengths.{displacementBy, displacementBytes, lengthBy}
 use Rattle.mrc_rules.specs.Refusals.{read, refused}
 use Rattle.mrc_rules.proofs.Along.{Along, along-bind, last-byte, last-word}
@@ -72,6 +73,7 @@ module _ (c : Account) where
   pub record ReadBy (i : Tail) (l : List ℕ) : Type 0 where
     pub operands : i .operands ≡ operandsAt l (c .places)
     pub operation : (x : List ℕ) → nameAt (l ++ x) (c .name) ≡ some (i .operation)
+    pub reach : (x : List ℕ) → reachAt (l ++ x) (c .distance) ≡ i .reach
     pub whole : (x : List ℕ) → lengthBy (c .extra) (l ++ x) ≡ length l
     pub told : (x : List ℕ) → verdictBy (c .bar) (l ++ x) ≡ read
 

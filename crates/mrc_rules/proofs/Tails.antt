@@ -1,4 +1,4 @@
--- What the bytes behind the prefixes come to is what the second accounts say: operands, operation, length and refusal.
+-- What the bytes behind the prefixes come to is what the second accounts say: operands, operation, distance, length and refusal.
 -- Assumes nothing.
 use mathlib.Core.Path.{_≡_, refl, ap, sym, subst, _∙_}
 use mathlib.Core.Logic.{_⊎_, inl, inr, ⊎-elim}
@@ -22,10 +22,11 @@ use Rattle.mrc_rules.specs.Decode.{tail, rules}
 use Rattle.mrc_rules.specs.Striking.{NoPrefix}
 use Rattle.mrc_rules.specs.Operands.{Places, nothing, only, _⟵_, test, places, byteAt, regAt, operandAt, operandsAt, operandsOf}
 use Rattle.mrc_rules.specs.Operations.{nameAt, operationOf}
+use Rattle.mrc_rules.specs.Reaches.{reachAt, reachOf}
 use Rattle.mrc_rules.specs.Lengths.{Extra, lengthBy, wholeLength}
 use Rattle.mrc_rules.specs.Refusals.{Verdict, read, refused, byOpcode, verdictOf, takenOf, noPlaces, isBare}
 use Rattle.mrc_rules.proofs.Along.{Holds, along}
-use Rattle.mrc_rules.proofs.Accounts.{Account, accountOf, Bar, free, shut, popped, segment, grouped, verdictBy, row-places, row-name, row-extra, row-verdict}
+use Rattle.mrc_rules.proofs.Accounts.{Account, accountOf, Bar, free, shut, popped, segment, grouped, verdictBy, row-places, row-name, row-distance, row-extra, row-verdict}
 use Rattle.mrc_rules.proofs.Places.{Waits, RefusedBy, ReadBy}
 use Rattle.mrc_rules.proofs.Rows.{row-along}
 use Rattle.mrc_rules.proofs.Counting.{tail-there}
@@ -56,6 +57,7 @@ pub record Reads (l : List ℕ) (i : Tail) (n : ℕ) : Type 0 where
   pub operands : i .operands ≡ operandsOf (take n l)
   pub bare : isBare (byteAt l 0) ≡ isNone (i .operands)
   pub operation : operationOf l ≡ some (i .operation)
+  pub reach : reachOf l ≡ i .reach
   pub whole : wholeLength l ≡ n
   pub told : rowVerdict l ≡ read
 
@@ -97,6 +99,7 @@ tail-comes opcode l =
       bare = bare-is (getD places opcode nothing) (opcode ∷ take n l) ∙ ap isNone (sym (r .operands ∙ ap (operandsAt (opcode ∷ take n l)) (row-places opcode)));
       operation =
           ap (nameAt (opcode ∷ l)) (sym (row-name opcode)) ∙ ap (λ (x : List ℕ). nameAt x (c .name)) (sym (again n)) ∙ r .operation (drop n l);
+      reach = ap (reachAt (opcode ∷ l)) (sym (row-distance opcode)) ∙ ap (λ (x : List ℕ). reachAt x (c .distance)) (sym (again n)) ∙ r .reach (drop n l);
       whole = whole-is n h (r .whole (drop n l));
       told = told-is read n (r .told (drop n l));
     }

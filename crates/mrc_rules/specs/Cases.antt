@@ -3,21 +3,27 @@ use Prim.Native.Nat.{ℕ}
 use mathlib.Core.List.{List, [], _∷_}
 use lib.IntN.{pos, negsuc}
 use Rattle.mrc_instruction.specs.declared.register.Segment.the-variants.{ES, CS, SS, DS}
+use Rattle.mrc_instruction.specs.declared.register.Segment.{Segment}
 use Rattle.mrc_instruction.specs.declared.register.RegisterEncoding.the-variants.{AlAx, BlBx}
 use Rattle.mrc_instruction.specs.declared.operand.AddressingMode.the-variants.{BxSi, BpSi, Bp, Bx}
 use Rattle.mrc_instruction.specs.declared.operand.OperandSize.the-variants.{Byte, Word}
+use Rattle.mrc_instruction.specs.declared.operand.OperandSize.{OperandSize}
 use Rattle.mrc_instruction.specs.declared.operand.Displacement.{Displacement}
 use Rattle.mrc_instruction.specs.declared.operand.Immediate.{Immediate}
 use Rattle.mrc_instruction.specs.declared.operand.Operand.{Operand}
 use Rattle.mrc_instruction.specs.declared.instruction.OperandSet.{OperandSet}
 use Rattle.mrc_instruction.specs.declared.instruction.Repeat.{Repeat}
 use Rattle.mrc_instruction.specs.declared.instruction.Repeated.{Repeated}
+use Rattle.mrc_instruction.specs.declared.instruction.Reach.{Reach}
+use Rattle.mrc_instruction.specs.declared.instruction.Reach.the-variants.{Neither, Near, Far}
 use Rattle.mrc_instruction.specs.declared.instruction.Instruction.{Instruction}
-use Rattle.mrc_instruction.specs.declared.operation.Operation.the-variants.{ADD, IN, JE, JMP, JNE, LES, MOV, MOVSB, OR, OUT, TEST, XCHG}
+use Rattle.mrc_instruction.specs.declared.operation.Operation.{Operation}
+use Rattle.mrc_instruction.specs.declared.operation.Operation.the-variants.{ADD, CALL, IN, IRET, JE, JMP, JNE, LES, MOV, MOVSB, OR, OUT, PUSH, RET, TEST, XCHG}
 use Rattle.mrc_instruction.specs.declared.errors.Refusal.the-variants.{EndOfInput, CouldNotReadExtraBytes, InvalidModRegRMEncoding, InvalidOpCode, InvalidSegmentEncoding, InvalidPrefix, TooManyPrefixes}
 use Rattle.mrc_rules.specs.declared.Answer.{Answer}
 use Rattle.mrc_rules.specs.declared.Answer.the-variants.{Decoded, Refused}
-use Rattle.mrc_rules.specs.Forms.{one, two, register}
+use Rattle.mrc_instruction.specs.Instruction.{reached}
+use Rattle.mrc_rules.specs.Forms.{none, one, two, register}
 
 -- an input with its budget, and the answer that it has
 pub record Case : Type 0 where
@@ -45,7 +51,7 @@ cases =
     (Decoded (two ADD (Operand.Indirect DS Word BxSi (Displacement.Word (pos 0x1234))) (Operand.Immediate (Immediate.Word 0x5678))) 6 0)  -- 11
     ∷ case 15 (0x81 ∷ 0x80 ∷ 0x34 ∷ 0x12 ∷ 0x78 ∷ []) (Refused CouldNotReadExtraBytes 5 0)  -- 11
     ∷ case 15 (0xF2 ∷ 0xF3 ∷ 0xA4 ∷ [])
-    (Decoded (record { repeat = Repeated.Some Repeat.NotEqual; operation = MOVSB; operands = OperandSet.None }) 3 2)  -- 12
+    (Decoded (record { reach = Neither; repeat = Repeated.Some Repeat.NotEqual; operation = MOVSB; operands = OperandSet.None }) 3 2)  -- 12
     ∷ case 0 (0xF3 ∷ 0x90 ∷ []) (Refused (TooManyPrefixes 0xF3) 1 1)  -- 13
     ∷ []
 
@@ -56,9 +62,29 @@ movAxFrom memory = Decoded (two MOV (register AlAx Word) memory)
 -- REPE MOV AX, ES:[BX]
 abbrev pub repeatedMov : Instruction
 repeatedMov = record {
+  reach = Neither;
   repeat = Repeated.Some Repeat.Equal;
   operation = MOV;
   operands = OperandSet.DestinationAndSource (register AlAx Word) (Operand.Indirect ES Word Bx Displacement.None);
+}
+
+-- a call, a jump or a return on one operand; such an operand: memory through BX, a far address
+abbrev pub goes : Reach → Operation → Operand → ℕ → ℕ → Answer
+goes reach op destination = Decoded (reached reach (one op destination))
+
+abbrev pub atBx : Segment → OperandSize → Operand
+atBx segment size = Operand.Indirect segment size Bx Displacement.None
+
+abbrev pub farAddress : Operand
+farAddress = Operand.SegmentAndOffset (record { segment = 0x5678; offset = 0x1234 })
+
+-- REPE CALL FAR [BX]
+abbrev pub repeatedCall : Instruction
+repeatedCall = record {
+  reach = Far;
+  repeat = Repeated.Some Repeat.Equal;
+  operation = CALL;
+  operands = OperandSet.Destination (atBx DS Word);
 }
 
 -- rule 16.2: inputs that a decoder may get wrong and still look right
@@ -73,7 +99,7 @@ easilyMistaken =
     -- a jump keeps a displacement of 0; JE is 74 and JNE 75
     ∷ case 15 (0x74 ∷ 0x00 ∷ []) (Decoded (one JE (Operand.Displacement (Displacement.Byte (pos 0)))) 2 0)
     ∷ case 15 (0x75 ∷ 0x80 ∷ []) (Decoded (one JNE (Operand.Displacement (Displacement.Byte (negsuc 0x7F)))) 2 0)
-    ∷ case 15 (0xE9 ∷ 0x00 ∷ 0x00 ∷ []) (Decoded (one JMP (Operand.Displacement (Displacement.Word (pos 0)))) 3 0)
+    ∷ case 15 (0xE9 ∷ 0x00 ∷ 0x00 ∷ []) (goes Near JMP (Operand.Displacement (Displacement.Word (pos 0))) 3 0)
     -- 8F reads its displacement before its reg is tested
     ∷ case 15 (0x8F ∷ 0xC8 ∷ []) (Refused (InvalidModRegRMEncoding 0xC8) 2 0)
     ∷ case 15 (0x8F ∷ 0x88 ∷ 0x00 ∷ []) (Refused CouldNotReadExtraBytes 3 0)
@@ -108,4 +134,27 @@ easilyMistaken =
     ∷ case 15 (0xA2 ∷ 0x34 ∷ 0x12 ∷ []) (Decoded (two MOV (Operand.Direct DS Byte 0x1234) (register AlAx Byte)) 3 0)
     ∷ case 15 (0xE4 ∷ 0x34 ∷ []) (Decoded (two IN (register AlAx Byte) (Operand.Immediate (Immediate.Byte 0x34))) 2 0)
     ∷ case 15 (0xE6 ∷ 0x34 ∷ []) (Decoded (two OUT (Operand.Immediate (Immediate.Byte 0x34)) (register AlAx Byte)) 2 0)
+    -- near and far: by the first byte; IRET is neither
+    ∷ case 15 (0x9A ∷ 0x34 ∷ 0x12 ∷ 0x78 ∷ 0x56 ∷ []) (goes Far CALL farAddress 5 0)
+    ∷ case 15 (0xEA ∷ 0x34 ∷ 0x12 ∷ 0x78 ∷ 0x56 ∷ []) (goes Far JMP farAddress 5 0)
+    ∷ case 15 (0xE8 ∷ 0x00 ∷ 0x00 ∷ []) (goes Near CALL (Operand.Displacement (Displacement.Word (pos 0))) 3 0)
+    ∷ case 15 (0xEB ∷ 0x80 ∷ []) (goes Near JMP (Operand.Displacement (Displacement.Byte (negsuc 0x7F))) 2 0)
+    ∷ case 15 (0xC2 ∷ 0x04 ∷ 0x00 ∷ []) (goes Near RET (Operand.Displacement (Displacement.Word (pos 4))) 3 0)
+    ∷ case 15 (0xCA ∷ 0x04 ∷ 0x00 ∷ []) (goes Far RET (Operand.Immediate (Immediate.Word 4)) 3 0)
+    ∷ case 15 (0xC3 ∷ []) (Decoded (reached Near (none RET)) 1 0)
+    ∷ case 15 (0xCB ∷ []) (Decoded (reached Far (none RET)) 1 0)
+    ∷ case 15 (0xCF ∷ []) (Decoded (none IRET) 1 0)
+    -- and by reg: FF /3 and /5 are far, FE /3 and /5 near; PUSH is neither
+    ∷ case 15 (0xFF ∷ 0x17 ∷ []) (goes Near CALL (atBx DS Word) 2 0)
+    ∷ case 15 (0xFF ∷ 0x1F ∷ []) (goes Far CALL (atBx DS Word) 2 0)
+    ∷ case 15 (0xFF ∷ 0x27 ∷ []) (goes Near JMP (atBx DS Word) 2 0)
+    ∷ case 15 (0xFF ∷ 0x2F ∷ []) (goes Far JMP (atBx DS Word) 2 0)
+    ∷ case 15 (0xFF ∷ 0x37 ∷ []) (goes Neither PUSH (atBx DS Word) 2 0)
+    ∷ case 15 (0xFE ∷ 0x17 ∷ []) (goes Near CALL (atBx DS Byte) 2 0)
+    ∷ case 15 (0xFE ∷ 0x1F ∷ []) (goes Near CALL (atBx DS Byte) 2 0)
+    ∷ case 15 (0xFE ∷ 0x27 ∷ []) (goes Near JMP (atBx DS Byte) 2 0)
+    ∷ case 15 (0xFE ∷ 0x2F ∷ []) (goes Near JMP (atBx DS Byte) 2 0)
+    -- how far it goes stays under an override and under a repeat
+    ∷ case 15 (0x26 ∷ 0xFF ∷ 0x1F ∷ []) (goes Far CALL (atBx ES Word) 3 1)
+    ∷ case 15 (0xF3 ∷ 0xFF ∷ 0x1F ∷ []) (Decoded repeatedCall 3 1)
     ∷ []

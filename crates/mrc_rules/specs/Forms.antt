@@ -14,6 +14,8 @@ use Rattle.mrc_instruction.specs.declared.operand.Displacement.{Displacement}
 use Rattle.mrc_instruction.specs.declared.operand.Immediate.{Immediate}
 use Rattle.mrc_instruction.specs.declared.operand.Operand.{Operand}
 use Rattle.mrc_instruction.specs.declared.instruction.OperandSet.{OperandSet}
+use Rattle.mrc_instruction.specs.declared.instruction.Reach.{Reach}
+use Rattle.mrc_instruction.specs.declared.instruction.Reach.the-variants.{Neither, Near, Far}
 use Rattle.mrc_instruction.specs.declared.instruction.Instruction.{Instruction}
 use Rattle.mrc_instruction.specs.declared.operation.Operation.{Operation}
 use Rattle.mrc_instruction.specs.declared.operation.Operation.the-variants.{ADC, ADD, AND, CALL, CMP, DEC, DIV, ESC, IDIV, IMUL, IN, INC, JMP, MOV, MUL, NEG, NOT, OR, OUT, POP, PUSH, RCL, RCR, ROL, ROR, SAR, SBB, SHL, SHR, SUB, TEST, XCHG, XOR}
@@ -21,7 +23,7 @@ use Rattle.mrc_instruction.specs.Register.{registerOf, segmentOf}
 use Rattle.mrc_instruction.specs.Signed.{signedByte, signedWord}
 use Rattle.mrc_instruction.specs.Reader.{Reader, done, refuse, _>>=_, aByte, aWord}
 use Rattle.mrc_instruction.specs.Mrrm.{ModRM, regField, aModRM, operandOf}
-use Rattle.mrc_instruction.specs.Instruction.{plain}
+use Rattle.mrc_instruction.specs.Instruction.{plain, reached}
 
 -- the forms with a ModRM
 pub data ModRMForm : Type 0 where
@@ -48,6 +50,8 @@ pub data Row : Type 0 where
   onImmediate : Operation → OperandSize → Row
   escape : Row
   inPort outPort inDx outDx : OperandSize → Row
+  -- the row of a call, a jump or a return, with how far it goes
+  reaching : Reach → Row → Row
 
 -- what the bytes behind the prefixes come to
 abbrev pub Tail : Type 0
@@ -101,6 +105,11 @@ shift n = getD (ROL ∷ ROR ∷ RCL ∷ RCR ∷ SHL ∷ SHR ∷ SHL ∷ SAR ∷ 
 abbrev pub groupFEOperation : ℕ → Operation
 groupFEOperation n = getD (INC ∷ DEC ∷ CALL ∷ CALL ∷ JMP ∷ JMP ∷ PUSH ∷ PUSH ∷ []) n PUSH
 
+-- rule 5.10: how far these go, of FE and of FF
+abbrev pub groupFEReach : OperandSize → ℕ → Reach
+groupFEReach Byte n = getD (Neither ∷ Neither ∷ Near ∷ Near ∷ Near ∷ Near ∷ Neither ∷ Neither ∷ []) n Neither
+groupFEReach Word n = getD (Neither ∷ Neither ∷ Near ∷ Far ∷ Near ∷ Far ∷ Neither ∷ Neither ∷ []) n Neither
+
 -- rule 5.3: of F6 and F7 from reg 2 on; at 0 it is TEST with an immediate, and 1 is refused
 abbrev pub groupF6Operation : ℕ → Operation
 groupF6Operation n = getD (NOT ∷ NEG ∷ MUL ∷ IMUL ∷ DIV ∷ IDIV ∷ []) n IDIV
@@ -133,7 +142,7 @@ behind shiftByOne size operand byte = done (two (shift (regField byte)) operand 
 behind shiftByCl size operand byte = done (two (shift (regField byte)) operand (register RegisterEncoding.ClCx size))
 behind groupC6 size operand byte = anImmediate size >>= λ i. done (two MOV operand (Operand.Immediate i))
 behind groupF6 size operand byte = groupF6By (regField byte) operand size
-behind groupFE size operand byte = done (one (groupFEOperation (regField byte)) operand)
+behind groupFE size operand byte = done (reached (groupFEReach size (regField byte)) (one (groupFEOperation (regField byte)) operand))
 
 -- rule 5.2: what follows an opcode, by its row
 abbrev pub rest : ℕ → Row → Reader Tail
@@ -161,3 +170,5 @@ rest opcode (inPort size) = anImmediate Byte >>= λ i. done (two IN (acc size) (
 rest opcode (outPort size) = anImmediate Byte >>= λ i. done (two OUT (Operand.Immediate i) (acc size))
 rest opcode (inDx size) = done (two IN (acc size) dx)
 rest opcode (outDx size) = done (two OUT dx (acc size))
+-- rule 5.10: what the row reads, with how far it goes
+rest opcode (reaching reach row) = rest opcode row >>= λ i. done (reached reach i)

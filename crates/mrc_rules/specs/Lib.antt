@@ -6,6 +6,7 @@ pub mod Decode
 pub mod Striking
 pub mod Operands
 pub mod Operations
+pub mod Reaches
 pub mod Lengths
 pub mod Refusals
 pub mod Cases

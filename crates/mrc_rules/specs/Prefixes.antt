@@ -63,7 +63,7 @@ pub data Result : Type 0 where
 
 -- the tail's instruction with a repeat and operands
 abbrev pub made : Tail → Repeated → OperandSet → Instruction
-made i repeat operands = record { repeat = repeat; operation = i .operation; operands = operands }
+made i repeat operands = record { reach = i .reach; repeat = repeat; operation = i .operation; operands = operands }
 
 -- the tail's instruction, which has these operands, under the override o: rules 7.6 and 7.7
 abbrev pub under : ℕ → Repeated → Tail → OperandSet → Result

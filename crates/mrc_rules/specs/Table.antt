@@ -6,10 +6,11 @@ use Rattle.mrc_instruction.specs.declared.register.Segment.the-variants.{ES, CS
 use Rattle.mrc_instruction.specs.declared.register.RegisterEncoding.{RegisterEncoding}
 use Rattle.mrc_instruction.specs.declared.register.RegisterEncoding.the-variants.{ClCx, DlDx, BlBx, AhSp, ChBp, DhSi, BhDi}
 use Rattle.mrc_instruction.specs.declared.operand.OperandSize.the-variants.{Byte, Word}
+use Rattle.mrc_instruction.specs.declared.instruction.Reach.the-variants.{Near, Far}
 use Rattle.mrc_instruction.specs.declared.operation.Operation.{Operation}
 use Rattle.mrc_instruction.specs.declared.operation.Operation.the-variants.{AAA, AAD, AAM, AAS, ADC, ADD, AND, CALL, CBW, CLC, CLD, CLI, CMC, CMP, CMPSB, CMPSW, CWD, DAA, DAS, DEC, HLT, INC, INT, INT1, INT3, INTO, IRET, JB, JBE, JCXZ, JE, JL, JLE, JMP, JNB, JNBE, JNE, JNL, JNLE, JNO, JNP, JNS, JO, JP, JS, LAHF, LDS, LEA, LES, LOCK, LODSB, LODSW, LOOP, LOOPNZ, LOOPZ, MOV, MOVSB, MOVSW, NOP, OR, POP, POPF, PUSH, PUSHF, RET, SAHF, SALC, SBB, SCASB, SCASW, STC, STD, STI, STOSB, STOSW, SUB, TEST, WAIT, XCHG, XLATB, XOR}
 use Rattle.mrc_instruction.specs.Register.{registers}
-use Rattle.mrc_rules.specs.Forms.{Row, _⦂_, bare, prefix, invalid, rmReg, regRm, immediateToAccumulator, onSegment, onRegister, onDisplacement, group80, group83, pop, rmSegment, segmentRm, exchange, far, accDirect, directAcc, registerAndImmediate, shiftByImmediate, shiftByOne, shiftByCl, onImmediate, groupC6, escape, inPort, outPort, inDx, outDx, groupF6, groupFE}
+use Rattle.mrc_rules.specs.Forms.{Row, _⦂_, bare, prefix, invalid, rmReg, regRm, immediateToAccumulator, onSegment, onRegister, onDisplacement, group80, group83, pop, rmSegment, segmentRm, exchange, far, accDirect, directAcc, registerAndImmediate, shiftByImmediate, shiftByOne, shiftByCl, onImmediate, groupC6, escape, inPort, outPort, inDx, outDx, groupF6, groupFE, reaching}
 
 -- the eight rows of an arithmetic operation: its six forms and two more
 abbrev pub six : Operation → Row → Row → List Row
@@ -41,17 +42,17 @@ rows =
     ++ (group80 ⦂ Byte ∷ group80 ⦂ Word ∷ group80 ⦂ Byte ∷ group83 ⦂ Word ∷ rmReg TEST ⦂ Byte ∷ rmReg TEST ⦂ Word ∷ rmReg XCHG ⦂ Byte ∷ rmReg XCHG ⦂ Word ∷ [])  -- 80
     ++ (rmReg MOV ⦂ Byte ∷ rmReg MOV ⦂ Word ∷ regRm MOV ⦂ Byte ∷ regRm MOV ⦂ Word ∷ rmSegment ⦂ Word ∷ regRm LEA ⦂ Word ∷ segmentRm ⦂ Word ∷ pop ⦂ Word ∷ [])  -- 88
     ++ (bare NOP ∷ exchange ClCx ∷ exchange DlDx ∷ exchange BlBx ∷ exchange AhSp ∷ exchange ChBp ∷ exchange DhSi ∷ exchange BhDi ∷ [])  -- 90
-    ++ (bare CBW ∷ bare CWD ∷ far CALL ∷ bare WAIT ∷ bare PUSHF ∷ bare POPF ∷ bare SAHF ∷ bare LAHF ∷ [])  -- 98
+    ++ (bare CBW ∷ bare CWD ∷ reaching Far (far CALL) ∷ bare WAIT ∷ bare PUSHF ∷ bare POPF ∷ bare SAHF ∷ bare LAHF ∷ [])  -- 98
     ++ (accDirect Byte ∷ accDirect Word ∷ directAcc Byte ∷ directAcc Word ∷ bare MOVSB ∷ bare MOVSW ∷ bare CMPSB ∷ bare CMPSW ∷ [])  -- A0
     ++ (immediateToAccumulator TEST Byte ∷ immediateToAccumulator TEST Word ∷ bare STOSB ∷ bare STOSW ∷ bare LODSB ∷ bare LODSW ∷ bare SCASB ∷ bare SCASW ∷ [])  -- A8
     ++ eight (λ r. registerAndImmediate r Byte)  -- B0
     ++ eight (λ r. registerAndImmediate r Word)  -- B8
-    ++ (shiftByImmediate ⦂ Byte ∷ shiftByImmediate ⦂ Word ∷ onDisplacement RET Word ∷ bare RET ∷ regRm LES ⦂ Word ∷ regRm LDS ⦂ Word ∷ groupC6 ⦂ Byte ∷ groupC6 ⦂ Word ∷ [])  -- C0
-    ++ (invalid ∷ invalid ∷ onImmediate RET Word ∷ bare RET ∷ bare INT3 ∷ onImmediate INT Byte ∷ bare INTO ∷ bare IRET ∷ [])  -- C8
+    ++ (shiftByImmediate ⦂ Byte ∷ shiftByImmediate ⦂ Word ∷ reaching Near (onDisplacement RET Word) ∷ reaching Near (bare RET) ∷ regRm LES ⦂ Word ∷ regRm LDS ⦂ Word ∷ groupC6 ⦂ Byte ∷ groupC6 ⦂ Word ∷ [])  -- C0
+    ++ (invalid ∷ invalid ∷ reaching Far (onImmediate RET Word) ∷ reaching Far (bare RET) ∷ bare INT3 ∷ onImmediate INT Byte ∷ bare INTO ∷ bare IRET ∷ [])  -- C8
     ++ (shiftByOne ⦂ Byte ∷ shiftByOne ⦂ Word ∷ shiftByCl ⦂ Byte ∷ shiftByCl ⦂ Word ∷ onImmediate AAM Byte ∷ onImmediate AAD Byte ∷ bare SALC ∷ bare XLATB ∷ [])  -- D0
     ++ (escape ∷ escape ∷ escape ∷ escape ∷ escape ∷ escape ∷ escape ∷ escape ∷ [])  -- D8
     ++ (onDisplacement LOOPNZ Byte ∷ onDisplacement LOOPZ Byte ∷ onDisplacement LOOP Byte ∷ onDisplacement JCXZ Byte ∷ inPort Byte ∷ inPort Word ∷ outPort Byte ∷ outPort Word ∷ [])  -- E0
-    ++ (onDisplacement CALL Word ∷ onDisplacement JMP Word ∷ far JMP ∷ onDisplacement JMP Byte ∷ inDx Byte ∷ inDx Word ∷ outDx Byte ∷ outDx Word ∷ [])  -- E8
+    ++ (reaching Near (onDisplacement CALL Word) ∷ reaching Near (onDisplacement JMP Word) ∷ reaching Far (far JMP) ∷ reaching Near (onDisplacement JMP Byte) ∷ inDx Byte ∷ inDx Word ∷ outDx Byte ∷ outDx Word ∷ [])  -- E8
     ++ (bare LOCK ∷ bare INT1 ∷ prefix ∷ prefix ∷ bare HLT ∷ bare CMC ∷ groupF6 ⦂ Byte ∷ groupF6 ⦂ Word ∷ [])  -- F0
     ++ (bare CLC ∷ bare STC ∷ bare CLI ∷ bare STI ∷ bare CLD ∷ bare STD ∷ groupFE ⦂ Byte ∷ groupFE ⦂ Word ∷ [])  -- F8
 

@@ -46,13 +46,16 @@ const NO_MODRM: ours::Modrm = ours::Modrm {
 /// More room than any line has.
 pub const MUCH_ROOM: usize = 128;
 
-/// A decode's record, and the counts of the same decode.
+/// A decode's record but for near and far, that by itself, and the counts of the same decode.
 pub fn decode(tally: &mut Tally, bytes: &[u8], at: usize, budget: u8) {
     let rust = oracle::decode(bytes, at, budget);
     let question = |call| Question::new(call, bytes, at, Limit::Budget(budget));
     let mut out = NO_RECORD;
     ours::decode(bytes, at, budget, &mut out);
-    tally.note(&record::of(&rust), &out.bytes(), || question("decode"));
+    let told = record::of(&rust);
+    let read = record::of_the_rust(out.bytes());
+    tally.note(&record::of_the_rust(told), &read, || question("decode"));
+    tally.note(&[told[record::REACH]], &[out.reach], || question("near or far"));
     let step = ours::step(bytes, at, budget);
     let rust = record::step(&rust);
     tally.note(&rust.to_be_bytes(), &step.to_be_bytes(), || {

@@ -7,10 +7,11 @@ use differential::fields::kinds_and_sizes;
 use differential::listing::LONGEST_IMAGE;
 use differential::oracle::USUAL_BUDGET;
 use differential::random::Random;
+use mrc::LONGEST_LINE;
 
 const RANDOM_STRINGS: usize = 65_536;
 /// Rooms for one line, for several, for a page of the program `list`, and for all lines of an image.
-const PAGE_ROOMS: [usize; 7] = [85, 86, 100, 255, 1_000, 8_192, 85 * LONGEST_IMAGE];
+const PAGE_ROOMS: [usize; 7] = [LONGEST_LINE, LONGEST_LINE + 1, 100, 255, 1_000, 8_192, LONGEST_LINE * LONGEST_IMAGE];
 
 pub fn short_strings() -> Tally {
     over(256, |first, tally| {

@@ -9,6 +9,7 @@ pub mod listing;
 pub mod modrm;
 pub mod oracle;
 pub mod random;
+pub mod reach;
 pub mod record;
 pub mod refusal;
 pub mod sample;

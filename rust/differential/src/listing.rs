@@ -1,7 +1,8 @@
-//! The listing line, rendered plainly from the given Rust's answer.
+//! The listing line, rendered plainly from the given Rust's answer; near and far, which it does not tell, from the bytes.
 
 use crate::compare::hex;
 use crate::oracle::{self, USUAL_BUDGET};
+use crate::reach;
 use crate::refusal::Refusal;
 use mrc_instruction::{
     Displacement, Immediate, Instruction, Operand, OperandSet, OperandSize, Operation, Repeat,
@@ -59,7 +60,7 @@ fn line_at(image: &[u8], at: usize) -> Line {
     let (taken, words) = match answer.result {
         Ok(instruction) => (
             answer.taken,
-            instruction_text(&instruction, at + answer.taken, 0),
+            instruction_text(&instruction, answer.reach, at + answer.taken, 0),
         ),
         Err(_) => (1, format!("DB {:02X}", image[at])),
     };
@@ -71,13 +72,14 @@ fn line_at(image: &[u8], at: usize) -> Line {
 }
 
 /// `next` is the offset of the byte after the instruction; from `base` a displacement of RET counts.
-pub fn instruction_text(instruction: &Instruction, next: usize, base: usize) -> String {
+pub fn instruction_text(instruction: &Instruction, reach: u8, next: usize, base: usize) -> String {
     let repeat = match instruction.repeat {
         None => "",
         Some(Repeat::Equal) => "REPE ",
         Some(Repeat::NotEqual) => "REPNE ",
     };
     let name = instruction.operation.to_string().to_uppercase();
+    let far = if reach == reach::FAR { " FAR" } else { "" };
     let operands = match &instruction.operands {
         OperandSet::None => String::new(),
         OperandSet::Destination(destination) => {
@@ -91,7 +93,7 @@ pub fn instruction_text(instruction: &Instruction, next: usize, base: usize) -> 
             format!(" {}, {}", operand_text(destination), operand_text(source))
         }
     };
-    format!("{repeat}{name}{operands}")
+    format!("{repeat}{name}{far}{operands}")
 }
 
 fn alone_text(operand: &Operand, from: usize) -> String {
@@ -204,7 +206,7 @@ mod tests {
         ends(&[0x26, 0xA1, 0x34, 0x12], "MOV AX, WORD ES:[1234]");
         ends(&[0x88, 0x40, 0x80], "MOV BYTE DS:[BX+SI-80], AL");
         ends(&[0x88, 0x80, 0x00, 0x80], "MOV BYTE DS:[BX+SI-8000], AL");
-        ends(&[0xEA, 0x78, 0x56, 0x34, 0x12], "JMP 1234:5678");
+        ends(&[0xEA, 0x78, 0x56, 0x34, 0x12], "JMP FAR 1234:5678");
         ends(&[0x8E, 0xD8], "MOV DS, AX");
         ends(&[0xF2, 0xA6], "REPNE CMPSB");
     }
@@ -221,7 +223,8 @@ mod tests {
             ends(at, &[0xC2, 0x04, 0x00], "RET 0004");
             ends(at, &[0xC2, 0xFC, 0xFF], "RET FFFC");
             ends(at, &[0xC2, 0x00, 0x80], "RET 8000");
-            ends(at, &[0xCA, 0xFC, 0xFF], "RET FFFC");
+            ends(at, &[0xCA, 0xFC, 0xFF], "RET FAR FFFC");
+            ends(at, &[0xCB], "RET FAR");
         }
         ends(0x100, &[0xE9, 0x04, 0x00], "JMP 0107");
     }
@@ -231,7 +234,7 @@ mod tests {
         let text = |displacement| {
             let operands = OperandSet::Destination(Operand::Displacement(displacement));
             let instruction = Instruction::new(Operation::RET, operands);
-            instruction_text(&instruction, 0x107, 0)
+            instruction_text(&instruction, reach::NEAR, 0x107, 0)
         };
         assert_eq!(text(Displacement::Byte(-2)), "RET FFFE");
         assert_eq!(text(Displacement::Word(-4)), "RET FFFC");

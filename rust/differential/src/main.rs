@@ -18,6 +18,7 @@ fn main() -> ExitCode {
     };
     let start = Instant::now();
     println!("seed {seed}");
+    println!("the Rust does not tell near and far: records leave it out, and it is held to the bytes by itself");
     let total = run(seed);
     println!(
         "{} compared, {} differ, in {} s",

@@ -1,6 +1,7 @@
-//! The given Rust's decoder with what the rules add to it: a position, a prefix budget and the two counts.
+//! The given Rust's decoder with what the rules add to it: a position, a prefix budget, the two counts, and near and far.
 
 use crate::counted::Counted;
+use crate::reach;
 use crate::refusal::Refusal;
 use mrc_decoder::decode_instruction;
 use mrc_instruction::Instruction;
@@ -12,6 +13,8 @@ pub struct Answer {
     pub result: Result<Instruction, Refusal>,
     pub taken: usize,
     pub prefixes: usize,
+    /// The code of `enum mrc_reach`, found in the bytes.
+    pub reach: u8,
 }
 
 pub fn decode(bytes: &[u8], at: usize, budget: u8) -> Answer {
@@ -28,10 +31,12 @@ fn decode_within(bytes: &[u8], budget: usize) -> Answer {
     }
     let mut counted = Counted::new(bytes);
     let result = decode_instruction(&mut counted).map_err(Refusal::from);
+    let reach = result.as_ref().map_or(reach::NEITHER, |_| reach::of(bytes));
     Answer {
         result,
         taken: counted.taken,
         prefixes,
+        reach,
     }
 }
 
@@ -41,11 +46,17 @@ fn refused(refusal: Refusal, prefixes: usize) -> Answer {
         result: Err(refusal),
         taken: prefixes,
         prefixes,
+        reach: reach::NEITHER,
     }
 }
 
 fn prefix_run(bytes: &[u8]) -> usize {
     bytes.iter().take_while(|byte| is_prefix(**byte)).count()
+}
+
+/// What follows the prefixes.
+pub fn tail(bytes: &[u8]) -> &[u8] {
+    &bytes[prefix_run(bytes)..]
 }
 
 fn is_prefix(byte: u8) -> bool {

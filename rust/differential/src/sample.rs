@@ -220,6 +220,7 @@ mod tests {
     fn every_operation_operand_and_refusal_is_there() {
         assert_eq!(values(&[record::OPERATION], false), (0..=96).collect());
         assert_eq!(values(&[record::REPEAT], false), (0..=2).collect());
+        assert_eq!(values(&[record::REACH], false), (0..=2).collect());
         let kinds = (0..=12)
             .filter(|kind| *kind != record::DISPLACEMENT_NONE)
             .collect();

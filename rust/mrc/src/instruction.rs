@@ -1,4 +1,6 @@
+use crate::coded::coded;
 use crate::{Operand, Operation};
+use std::fmt::{self, Display, Formatter};
 
 /// The operands of an instruction, the destination before the source.
 #[derive(Clone, Copy, Debug, PartialEq, Eq, Hash)]
@@ -21,6 +23,31 @@ pub enum Repeat {
     NotEqual,
 }
 
+coded! {
+    /// How far a call, a jump or a return goes.
+    #[derive(Default)]
+    pub enum Reach {
+        /// It is no CALL, JMP or RET.
+        #[default]
+        Neither,
+        /// Within its segment.
+        Near,
+        /// To another segment: 9A, EA, CA, CB, and FF with reg 3 or 5.
+        Far,
+    }
+}
+
+/// The name in lower case, as an operation's. A listing has `FAR` behind the operation's name, and nothing for the others.
+impl Display for Reach {
+    fn fmt(&self, f: &mut Formatter<'_>) -> fmt::Result {
+        f.pad(match self {
+            Self::Neither => "neither",
+            Self::Near => "near",
+            Self::Far => "far",
+        })
+    }
+}
+
 /// An instruction, apart from the bytes that it takes.
 ///
 /// ```
@@ -28,6 +55,8 @@ pub enum Repeat {
 ///
 /// let nop = Instruction::new(Operation::NOP, OperandSet::None);
 /// assert_eq!(mrc::decode_at(&[0x90], 0, 15).result, Ok(nop));
+/// let far = Instruction::new(Operation::RET, OperandSet::None).reaching(mrc::Reach::Far);
+/// assert_eq!(mrc::decode_at(&[0xCB], 0, 15).result, Ok(far));
 /// ```
 #[derive(Clone, Copy, Debug, PartialEq, Eq, Hash)]
 #[non_exhaustive]
@@ -38,26 +67,34 @@ pub struct Instruction {
     pub operands: OperandSet,
     /// Its first repeat prefix.
     pub repeat: Option<Repeat>,
+    /// Whether it is near, far or neither, which mrc_instruction does not tell.
+    pub reach: Reach,
 }
 
 impl Instruction {
-    /// The instruction with no repeat.
+    /// The instruction with no repeat, neither near nor far.
     #[must_use]
     pub fn new(operation: Operation, operands: OperandSet) -> Self {
         Self {
             operation,
             operands,
             repeat: None,
+            reach: Reach::Neither,
         }
     }
 
-    /// The instruction with a repeat.
+    /// The instruction with a repeat, neither near nor far.
     #[must_use]
     pub fn with_repeat(repeat: Repeat, operation: Operation, operands: OperandSet) -> Self {
         Self {
-            operation,
-            operands,
             repeat: Some(repeat),
+            ..Self::new(operation, operands)
         }
+    }
+
+    /// The same instruction, near, far or neither.
+    #[must_use]
+    pub fn reaching(self, reach: Reach) -> Self {
+        Self { reach, ..self }
     }
 }

@@ -23,7 +23,7 @@ pub use address::Address;
 pub use decode::{decode_at, Answer};
 pub use errors::{DecodeError, Result};
 pub use fields::TryFromEncoding;
-pub use instruction::{Instruction, OperandSet, Repeat};
+pub use instruction::{Instruction, OperandSet, Reach, Repeat};
 pub use line::{line, lines, Line, Lines, Written, LONGEST_IMAGE, LONGEST_LINE};
 pub use mrrm::{read_mrrm, ModRegRM, MrrmAnswer, RegisterOrMemory};
 pub use operand::{AddressingMode, Displacement, Immediate, Operand, OperandSize};

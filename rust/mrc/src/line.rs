@@ -5,7 +5,7 @@ use std::iter::FusedIterator;
 /// The most bytes that an image has: one for each offset.
 pub const LONGEST_IMAGE: usize = 65_536;
 /// The most bytes that a line has, its LF included.
-pub const LONGEST_LINE: usize = 85;
+pub const LONGEST_LINE: usize = 89;
 
 /// What a line call wrote.
 #[derive(Clone, Copy, Debug, PartialEq, Eq, Hash)]

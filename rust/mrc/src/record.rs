@@ -1,14 +1,14 @@
 use crate::operand::Kind;
 use crate::{
     boundary, Address, AddressingMode, DecodeError, Displacement, Immediate, Instruction, Operand,
-    OperandSet, OperandSize, Operation, RegisterEncoding, Repeat, Result, Segment,
+    OperandSet, OperandSize, Operation, Reach, RegisterEncoding, Repeat, Result, Segment,
     SizedRegisterEncoding,
 };
 
 /// A decode's answer as the proved library writes it, from which each field is read by itself: cheaper than the whole
 /// [`Answer`](crate::Answer) where not all of it is wanted.
 ///
-/// A refusal has no operation, no repeat and no operand.
+/// A refusal has no operation, no repeat and no operand, and is neither near nor far.
 #[derive(Clone, Copy, Debug, PartialEq, Eq, Hash)]
 #[must_use]
 pub struct Record(boundary::Record);
@@ -40,6 +40,7 @@ impl Record {
                 operation: Operation::from_code(self.0.operation),
                 operands: self.operand_set(),
                 repeat: self.repeat(),
+                reach: self.reach(),
             }),
         }
     }
@@ -88,6 +89,13 @@ impl Record {
             2 => Some(Repeat::NotEqual),
             code => panic!("no repeat has the code {code}"),
         }
+    }
+
+    /// Whether the instruction is near, far or neither.
+    #[inline]
+    #[must_use]
+    pub fn reach(&self) -> Reach {
+        Reach::from_code(self.0.reach)
     }
 
     /// How many operands the instruction has.

@@ -2,7 +2,8 @@
 
 use mrc::{
     decode_at, Address, AddressingMode, DecodeError, Displacement, Immediate, Instruction, Operand,
-    OperandSet, OperandSize, Operation, RegisterEncoding, Repeat, Segment, SizedRegisterEncoding,
+    OperandSet, OperandSize, Operation, Reach, RegisterEncoding, Repeat, Segment,
+    SizedRegisterEncoding,
 };
 
 const BUDGET: u8 = 15;
@@ -19,6 +20,10 @@ fn memory(segment: Segment, mode: AddressingMode, displacement: Displacement) ->
 fn two(operation: Operation, destination: Operand, source: Operand) -> Instruction {
     let operands = OperandSet::DestinationAndSource(destination, source);
     Instruction::new(operation, operands)
+}
+
+fn goes(reach: Reach, operation: Operation, destination: Operand) -> Instruction {
+    Instruction::new(operation, OperandSet::Destination(destination)).reaching(reach)
 }
 
 fn reads(bytes: &[u8], instruction: Instruction, taken: usize, prefixes: usize) {
@@ -124,7 +129,7 @@ fn fifteen_prefixes_are_read_and_sixteen_refused() {
 #[test]
 fn a_jump_back_carries_a_signed_byte() {
     let back = Operand::Displacement(Displacement::Byte(-128));
-    let jump = Instruction::new(Operation::JMP, OperandSet::Destination(back));
+    let jump = goes(Reach::Near, Operation::JMP, back);
     reads(&[0xEB, 0x80], jump, 2, 0);
 }
 
@@ -160,7 +165,7 @@ fn readings_that_look_right_are_not_given() {
     let mov = two(Operation::MOV, AX, by_bx);
     reads(&[0x8B, 0x87, 0x00, 0x00], mov, 4, 0);
     let nowhere = Operand::Displacement(Displacement::Byte(0));
-    let jump = Instruction::new(Operation::JMP, OperandSet::Destination(nowhere));
+    let jump = goes(Reach::Near, Operation::JMP, nowhere);
     reads(&[0xEB, 0x00], jump, 2, 0);
     let cut = DecodeError::CouldNotReadExtraBytes;
     refuses(&[0x8B], BUDGET, cut, 1, 0);
@@ -169,7 +174,7 @@ fn readings_that_look_right_are_not_given() {
 #[test]
 fn a_far_call_has_its_segment_and_offset() {
     let address = Operand::SegmentAndOffset(Address::new(0x5678, 0x1234));
-    let call = Instruction::new(Operation::CALL, OperandSet::Destination(address));
+    let call = goes(Reach::Far, Operation::CALL, address);
     reads(&[0x9A, 0x34, 0x12, 0x78, 0x56], call, 5, 0);
 }
 

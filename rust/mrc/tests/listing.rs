@@ -48,10 +48,33 @@ fn a_return_prints_its_word_wherever_it_stands() {
         ends([0xC2, 0x04, 0x00], "RET 0004");
         ends([0xC2, 0xFC, 0xFF], "RET FFFC");
         ends([0xC2, 0x00, 0x80], "RET 8000");
-        ends([0xCA, 0xFC, 0xFF], "RET FFFC");
+        ends([0xCA, 0xFC, 0xFF], "RET FAR FFFC");
         let next = (position + 3) % LONGEST_IMAGE;
         ends([0xE9, 0x00, 0x00], &format!("JMP {next:04X}"));
     }
+}
+
+#[test]
+fn what_is_far_says_so_behind_its_name() {
+    let image = [
+        0x9A, 0x78, 0x56, 0x34, 0x12, 0xCA, 0x04, 0x00, 0xCB, 0xC3, 0xFF, 0x1F, 0xFF, 0x17, 0xFE,
+        0x1F, 0xF3, 0x26, 0xFF, 0x6E, 0x05,
+    ];
+    let listing: String = lines(&image)
+        .expect("a short image")
+        .map(|line| line.text)
+        .collect();
+    assert_eq!(
+        listing,
+        "0000  9A 78 56 34 12         CALL FAR 1234:5678\n\
+         0005  CA 04 00               RET FAR 0004\n\
+         0008  CB                     RET FAR\n\
+         0009  C3                     RET\n\
+         000A  FF 1F                  CALL FAR WORD DS:[BX]\n\
+         000C  FF 17                  CALL WORD DS:[BX]\n\
+         000E  FE 1F                  CALL BYTE DS:[BX]\n\
+         0010  F3 26 FF 6E 05         REPE JMP FAR WORD ES:[BP+05]\n"
+    );
 }
 
 #[test]

@@ -2,7 +2,7 @@
 
 use mrc::{
     boundary, decode_at, record_at, Address, AddressingMode, DecodeError, Displacement, Operand,
-    OperandSize, Operation, RegisterEncoding, Repeat, Segment, SizedRegisterEncoding,
+    OperandSize, Operation, Reach, RegisterEncoding, Repeat, Segment, SizedRegisterEncoding,
 };
 use std::mem::{align_of, size_of};
 
@@ -50,8 +50,67 @@ fn a_far_address_is_the_destination() {
     let record = record_at(&[0x9A, 0x34, 0x12, 0x78, 0x56], 0, 15);
     let far = Operand::SegmentAndOffset(Address::new(0x5678, 0x1234));
     assert_eq!(record.operation(), Some(Operation::CALL));
+    assert_eq!(record.reach(), Reach::Far);
     assert_eq!(record.operands(), 1);
     assert_eq!((record.destination(), record.source()), (Some(far), None));
+}
+
+#[test]
+fn near_far_and_neither() {
+    let reaches = |reach, strings: &[&[u8]]| {
+        for bytes in strings {
+            let record = record_at(bytes, 0, 15);
+            assert_eq!(record.refusal(), None, "{bytes:X?}");
+            assert_eq!(record.reach(), reach, "{bytes:X?}");
+            let instruction = record.result().expect("an instruction");
+            assert_eq!(instruction.reach, reach, "{bytes:X?}");
+        }
+    };
+    reaches(
+        Reach::Far,
+        &[
+            &[0x9A, 0, 0, 0, 0],
+            &[0xEA, 0, 0, 0, 0],
+            &[0xCA, 4, 0],
+            &[0xCB],
+            &[0xFF, 0x1F],
+            &[0xFF, 0x2F],
+            &[0x26, 0xFF, 0x1F],
+            &[0xF3, 0x2E, 0xFF, 0x2F],
+        ],
+    );
+    reaches(
+        Reach::Near,
+        &[
+            &[0xE8, 0, 0],
+            &[0xE9, 0, 0],
+            &[0xEB, 0],
+            &[0xC2, 4, 0],
+            &[0xC3],
+            &[0xFF, 0x17],
+            &[0xFF, 0x27],
+            &[0xFE, 0x17],
+            &[0xFE, 0x1F],
+            &[0xFE, 0x27],
+            &[0xFE, 0x2F],
+            &[0x26, 0xFE, 0x1F],
+        ],
+    );
+    reaches(
+        Reach::Neither,
+        &[
+            &[0x90],
+            &[0xCF],
+            &[0x74, 0],
+            &[0xE2, 0],
+            &[0xCD, 0x21],
+            &[0xFF, 0x07],
+            &[0xFF, 0x37],
+            &[0xFE, 0x37],
+        ],
+    );
+    let names = [Reach::Neither, Reach::Near, Reach::Far].map(|reach| reach.to_string());
+    assert_eq!(names, ["neither", "near", "far"]);
 }
 
 #[test]
@@ -73,6 +132,7 @@ fn a_refusal_has_its_byte_and_counts_and_nothing_else() {
     assert_eq!(record.result(), Err(refusal));
     assert_eq!((record.taken(), record.prefixes()), (2, 2));
     assert_eq!((record.operation(), record.repeat()), (None, None));
+    assert_eq!(record.reach(), Reach::Neither);
     assert_eq!(record.operands(), 0);
     assert_eq!((record.destination(), record.source()), (None, None));
 }

@@ -3,10 +3,11 @@
 //!     given lines     prints offset, bytes taken, whether they were read, and the answer of each step, with tabs between
 //!     given count     decodes only, and prints the number of steps
 //!
-//! An instruction's text is the plain rendering of `differential::listing`, where RET's displacement is a distance, as in the Rust's own
-//! text; a refusal's is its name.
+//! An instruction's text is the plain rendering of `differential::listing`, where RET's displacement is a distance and nothing is far, as
+//! in the Rust's own text; a refusal's is its name.
 
 use differential::listing::instruction_text;
+use differential::reach::NEITHER;
 use mrc_decoder::{decode_instruction, Result};
 use mrc_instruction::Instruction;
 use std::hint::black_box;
@@ -43,7 +44,7 @@ fn print(out: &mut impl Write, (at, taken, answer): Step) -> io::Result<()> {
         Ok(read) => writeln!(
             out,
             "{at}\t{taken}\tread\t{}",
-            instruction_text(&read, at + taken, at + taken)
+            instruction_text(&read, NEITHER, at + taken, at + taken)
         ),
         Err(refusal) => writeln!(out, "{at}\t{taken}\trefused\t{refusal:02X?}"),
     }

@@ -66,7 +66,6 @@ static struct mrc_record decoded(const uint8_t *bytes, size_t length, uint8_t bu
     memset(&record, 0xA5, sizeof record);
     mrc_decode(bytes, length, 0, budget, &record);
     expect("what is reserved", record.reserved, 0);
-    expect("reach", record.reach, 0);
     expect("kept", record.kept, 0);
     expect("written", record.written, 0);
     expect("what is reserved", record.reserved_2[0] + record.reserved_2[1], 0);
@@ -87,6 +86,7 @@ static void decode(void)
     expect("prefixes", record.prefixes, 1);
     expect("operation", record.operation, MRC_OP_MOV);
     expect("repeat", record.repeat, 0);
+    expect("neither near nor far", record.reach, MRC_NEITHER);
     expect("operands", record.operands, 2);
     same("destination", record.operand[MRC_DESTINATION], ax);
     same("source", record.operand[MRC_SOURCE], memory);
@@ -96,20 +96,25 @@ static void decode(void)
     same("source in a register", record.operand[MRC_SOURCE], ax);
 }
 
-/* 9A 34 12 78 56 is CALL 5678:1234, and F2 A4 is REPNE MOVSB. */
+/* 9A 34 12 78 56 is CALL FAR 5678:1234, 26 FE 1F is near, and F2 A4 is REPNE MOVSB. */
 static void decode_one_and_none(void)
 {
     const uint8_t call[] = {0x9A, 0x34, 0x12, 0x78, 0x56};
     const struct mrc_operand far = {MRC_SEGMENT_AND_OFFSET, 0, 0, 0, 0x1234, 0x5678};
     struct mrc_record record = decoded(call, sizeof call, 15);
     expect("operation with one operand", record.operation, MRC_OP_CALL);
+    expect("far", record.reach, MRC_FAR);
     expect("one operand", record.operands, 1);
     same("far address", record.operand[MRC_DESTINATION], far);
     same("no source", record.operand[MRC_SOURCE], absent);
+    const uint8_t near[] = {0x26, 0xFE, 0x1F};
+    record = decoded(near, sizeof near, 15);
+    expect("near", record.reach, MRC_NEAR);
     const uint8_t move[] = {0xF2, 0xA4};
     record = decoded(move, sizeof move, 15);
     expect("operation without operands", record.operation, MRC_OP_MOVSB);
     expect("repeat while not equal", record.repeat, 2);
+    expect("neither", record.reach, MRC_NEITHER);
     expect("no operand", record.operands, 0);
     same("no destination", record.operand[MRC_DESTINATION], absent);
 }

@@ -18,10 +18,18 @@ mul-result-2 c = search needs
 add-result-2 : tie.Need-add-result-2
 add-result-2 c = search needs
 
+mul-result-3 : tie.Need-mul-result-3
+mul-result-3 c = search needs
+
+add-result-3 : tie.Need-add-result-3
+add-result-3 c = search needs
+
 returns : tie.Need-returns
 returns c =
     held (omega arith)
-    (body-held _ (record { operation = search needs; repeat = search needs; reach = omega arith; kept = omega arith; written = omega arith; operands = search needs; reserved = omega arith }))
+    (body-held _ (record { operation = search needs; repeat = search needs; reach = search needs; kept = omega arith; written = omega arith; operands = search needs; reserved = omega arith }))
 
 pub body-word-spec : {M : Type 1} → statement M
-body-word-spec = tie.close (tie.spec mul-result add-result mul-result-2 add-result-2 returns)
+body-word-spec =
+    tie.close
+    (tie.spec mul-result add-result mul-result-2 add-result-2 mul-result-3 add-result-3 returns)

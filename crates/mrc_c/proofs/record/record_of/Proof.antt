@@ -17,6 +17,9 @@ number-requires c κs = tt
 repeat-code-requires : tie.Need-repeat-code-requires
 repeat-code-requires c κs = tt
 
+reach-code-requires : tie.Need-reach-code-requires
+reach-code-requires c κs = tt
+
 enum-told : tie.Need-enum-told
 enum-told c = search needs
 
@@ -24,7 +27,7 @@ body-word-requires : tie.Need-body-word-requires
 body-word-requires c κs = tt
 
 returns : tie.Need-returns
-returns c = rw (c .before .before .before .before .before .before .before .answer .given .1, c .before .enum-told .given .1, ← c .before .before .before .before .number .ensures, ← c .before .before .before .repeat-code .ensures) (written _ (c .before .before .before .before .before .head-word .ensures) (c .body-word .ensures) no-operand no-operand no-operand)
+returns c = rw (c .before .before .before .before .before .before .before .before .answer .given .1, c .before .enum-told .given .1, ← c .before .before .before .before .before .number .ensures, ← c .before .before .before .before .repeat-code .ensures, ← c .before .before .before .reach-code .ensures) (written _ (c .before .before .before .before .before .before .head-word .ensures) (c .body-word .ensures) no-operand no-operand no-operand)
 
 enum-known-operands : tie.Need-enum-known-operands
 enum-known-operands c = search needs
@@ -36,7 +39,7 @@ operand-word-requires : tie.Need-operand-word-requires
 operand-word-requires c κs = tt
 
 returns-2 : tie.Need-returns-2
-returns-2 c = rw (c .before .before .before .before .before .before .before .before .before .answer .given .1, c .before .before .before .operands .given .1, ← c .before .before .before .before .before .before .number .ensures, ← c .before .before .before .before .before .repeat-code .ensures) (written _ (c .before .before .before .before .before .before .before .head-word .ensures) (c .before .body-word2 .ensures) (c .operand-word .ensures) no-operand no-operand)
+returns-2 c = rw (c .before .before .before .before .before .before .before .before .before .before .answer .given .1, c .before .before .before .operands .given .1, ← c .before .before .before .before .before .before .before .number .ensures, ← c .before .before .before .before .before .before .repeat-code .ensures, ← c .before .before .before .before .before .reach-code .ensures) (written _ (c .before .before .before .before .before .before .before .before .head-word .ensures) (c .before .body-word2 .ensures) (c .operand-word .ensures) no-operand no-operand)
 
 enum-known-operands-2 : tie.Need-enum-known-operands-2
 enum-known-operands-2 c = search needs
@@ -51,7 +54,7 @@ operand-word-requires-3 : tie.Need-operand-word-requires-3
 operand-word-requires-3 c κs = tt
 
 returns-3 : tie.Need-returns-3
-returns-3 c = rw (c .before .before .before .before .before .before .before .before .before .before .answer .given .1, c .before .before .before .before .operands2 .given .1, ← c .before .before .before .before .before .before .before .number .ensures, ← c .before .before .before .before .before .before .repeat-code .ensures) (written _ (c .before .before .before .before .before .before .before .before .head-word .ensures) (c .before .before .body-word3 .ensures) (c .before .operand-word2 .ensures) (c .operand-word3 .ensures) no-operand)
+returns-3 c = rw (c .before .before .before .before .before .before .before .before .before .before .before .answer .given .1, c .before .before .before .before .operands2 .given .1, ← c .before .before .before .before .before .before .before .before .number .ensures, ← c .before .before .before .before .before .before .before .repeat-code .ensures, ← c .before .before .before .before .before .before .reach-code .ensures) (written _ (c .before .before .before .before .before .before .before .before .before .head-word .ensures) (c .before .before .body-word3 .ensures) (c .before .operand-word2 .ensures) (c .operand-word3 .ensures) no-operand)
 
 enum-known-answer-2 : tie.Need-enum-known-answer-2
 enum-known-answer-2 c = search needs
@@ -76,6 +79,7 @@ record-of-spec =
     head-word-requires
     number-requires
     repeat-code-requires
+    reach-code-requires
     enum-told
     body-word-requires
     returns

@@ -1,6 +1,6 @@
 -- The decoder calls itself: the measure is the budget. The laws of a decode at a position say what each way through answers.
 -- Assumes nothing.
-use mathlib.Core.Path.{_∙_}
+use mathlib.Core.Path.{ap, _∙_}
 use Prim.Native.Nat.{ℕ, _+_, _-_, _<_}
 use native.Mathlib.Omega.{arith}
 use lib.ListN.{getD, drop}
@@ -18,6 +18,7 @@ use Rattle.mrc_decoder.proofs.decode.with_modrm.Reads as with-modrm-rea
 use Rattle.mrc_decoder.proofs.form.form_of.Reads as form-of-reads
 use Rattle.mrc_decoder.proofs.prefixes.under_override.Reads as under-override-reads
 use Rattle.mrc_decoder.proofs.prefixes.with_repeat.Reads as with-repeat-reads
+use Rattle.mrc_forms.proofs.answers.reaching.Reads as reaching-reads
 use Rattle.mrc_forms.proofs.forms.escape.Reads as escape-reads
 use Rattle.mrc_forms.proofs.forms.far.Reads as far-reads
 use Rattle.mrc_forms.proofs.forms.invalid.Reads as invalid-reads
@@ -29,6 +30,10 @@ use Rattle.mrc_directed.proofs.moves.accumulator_and_direct.Reads as accumulato
 use Rattle.mrc_directed.proofs.ports.in_port.Reads as in-port-reads
 use Rattle.mrc_directed.proofs.ports.out_port.Reads as out-port-reads
 use Rattle.mrc_directed.proofs.moves.register_and_immediate.Reads as register-and-immediate-reads
+use Rattle.mrc_instruction.specs.declared.instruction.Reach.the-variants.{Far}
+use Rattle.mrc_rules.specs.Forms.{far}
+use Rattle.mrc_forms.specs.Answers.{reachedAnswer}
+use Rattle.mrc_decoder.proofs.Reaching.{row-reached, immediate-reached, displacement-reached}
 use Rattle.mrc_decoder.proofs.Decoding.{past-end, alone-anywhere, ends-behind, no-prefix, override-over, repeat-over, override, repeat, small}
 use Rattle.mrc_decoder.proofs.decode.+decode_instruction.{statement}
 use Rattle.mrc_decoder.proofs.decode.+decode_instruction.Tie.{close}
@@ -54,7 +59,7 @@ decode-instruction-below t =
 
 -- what the callees ask and ensure, the decoder itself at a smaller measure
 abbrev claims : ℕ → decode-instruction-lts.Claims
-claims t = (past-reads.Asked, past-reads.Learnt, form-of-reads.Asked, form-of-reads.Learnt, too-many-reads.Asked, too-many-reads.Learnt, decode-instruction-below t, decode-instruction.Post, under-override-reads.Asked, under-override-reads.Learnt, with-repeat-reads.Asked, with-repeat-reads.Learnt, invalid-reads.Asked, invalid-reads.Learnt, answered-reads.Asked, answered-reads.Learnt, on-register-reads.Asked, on-register-reads.Learnt, on-immediate-reads.Asked, on-immediate-reads.Learnt, on-displacement-reads.Asked, on-displacement-reads.Learnt, far-reads.Asked, far-reads.Learnt, escape-reads.Asked, escape-reads.Learnt, in-port-reads.Asked, in-port-reads.Learnt, out-port-reads.Asked, out-port-reads.Learnt, register-and-immediate-reads.Asked, register-and-immediate-reads.Learnt, accumulator-and-direct-reads.Asked, accumulator-and-direct-reads.Learnt, immediate-to-accumulator-reads.Asked, immediate-to-accumulator-reads.Learnt, opcode-alone-reads.Asked, opcode-alone-reads.Learnt, with-modrm-reads.Asked, with-modrm-reads.Learnt)
+claims t = (past-reads.Asked, past-reads.Learnt, form-of-reads.Asked, form-of-reads.Learnt, too-many-reads.Asked, too-many-reads.Learnt, decode-instruction-below t, decode-instruction.Post, under-override-reads.Asked, under-override-reads.Learnt, with-repeat-reads.Asked, with-repeat-reads.Learnt, invalid-reads.Asked, invalid-reads.Learnt, answered-reads.Asked, answered-reads.Learnt, on-register-reads.Asked, on-register-reads.Learnt, on-immediate-reads.Asked, on-immediate-reads.Learnt, reaching-reads.Asked, reaching-reads.Learnt, on-displacement-reads.Asked, on-displacement-reads.Learnt, far-reads.Asked, far-reads.Learnt, escape-reads.Asked, escape-reads.Learnt, in-port-reads.Asked, in-port-reads.Learnt, out-port-reads.Asked, out-port-reads.Learnt, register-and-immediate-reads.Asked, register-and-immediate-reads.Learnt, accumulator-and-direct-reads.Asked, accumulator-and-direct-reads.Learnt, immediate-to-accumulator-reads.Asked, immediate-to-accumulator-reads.Learnt, opcode-alone-reads.Asked, opcode-alone-reads.Learnt, with-modrm-reads.Asked, with-modrm-reads.Learnt)
 
 decode-instruction-returns : (t : ℕ) → decode-instruction-lts.Need-returns (claims t) (decode-instruction-at t) decode-instruction.Post
 decode-instruction-returns t c = c .past .ensures ∙ past-end (c .before .before .before .args .s .now) (c .before .before .before .args .at) (c .before .before .before .args .budget) (c .before .if1 .taken)
@@ -90,22 +95,22 @@ decode-instruction-returns-7 : (t : ℕ) → decode-instruction-lts.Need-returns
 decode-instruction-returns-7 t c = no-prefix (c .before .before .before .before .before .before .before .before .before .args .s .now) (c .before .before .before .before .before .before .before .before .before .args .at) (c .before .before .before .before .before .before .before .before .before .args .budget) (c .before .before .before .before .before .before .before .if1 .left) (rw (c .before .before .before .operation .given .1) at (c .before .before .before .before .before .form-of .ensures)) (c .before .on-register .ensures) (c .answered2 .ensures)
 
 decode-instruction-answered-requires-3 : (t : ℕ) → decode-instruction-lts.Need-answered-requires-3 (claims t) (decode-instruction-at t) decode-instruction.Post
-decode-instruction-answered-requires-3 t c κs = ends-behind (c .before .before .before .before .before .before .before .before .args .s .now) (c .before .before .before .before .before .before .before .before .args .at) (c .before .before .before .before .before .before .before .before .args .budget) (c .before .before .before .before .before .before .if1 .left) (rw (c .before .before .operation2 .given .1) at (c .before .before .before .before .form-of .ensures)) (c .on-immediate .ensures)
+decode-instruction-answered-requires-3 t c κs = ends-behind (c .before .before .before .before .before .before .before .before .before .args .s .now) (c .before .before .before .before .before .before .before .before .before .args .at) (c .before .before .before .before .before .before .before .before .before .args .budget) (c .before .before .before .before .before .before .before .if1 .left) (rw (c .before .before .before .operation2 .given .1) at (c .before .before .before .before .before .form-of .ensures)) (c .reaching .ensures ∙ ap (reachedAnswer (c .before .before .before .operation2 .given .0 .1 .1 .0)) (c .before .on-immediate .ensures) ∙ immediate-reached (c .before .before .before .operation2 .given .0 .0) (c .before .before .before .operation2 .given .0 .1 .0) (getD (c .before .before .before .before .before .before .before .before .before .args .s .now) (c .before .before .before .before .before .before .before .before .before .args .at) 0) (c .before .before .before .before .before .before .before .before .before .args .at + 1) (drop (c .before .before .before .before .before .before .before .before .before .args .at + 1) (c .before .before .before .before .before .before .before .before .before .args .s .now)) (c .before .before .before .operation2 .given .0 .1 .1 .0))
 
 decode-instruction-returns-8 : (t : ℕ) → decode-instruction-lts.Need-returns-8 (claims t) (decode-instruction-at t) decode-instruction.Post
-decode-instruction-returns-8 t c = no-prefix (c .before .before .before .before .before .before .before .before .before .args .s .now) (c .before .before .before .before .before .before .before .before .before .args .at) (c .before .before .before .before .before .before .before .before .before .args .budget) (c .before .before .before .before .before .before .before .if1 .left) (rw (c .before .before .before .operation2 .given .1) at (c .before .before .before .before .before .form-of .ensures)) (c .before .on-immediate .ensures) (c .answered3 .ensures)
+decode-instruction-returns-8 t c = no-prefix (c .before .before .before .before .before .before .before .before .before .before .args .s .now) (c .before .before .before .before .before .before .before .before .before .before .args .at) (c .before .before .before .before .before .before .before .before .before .before .args .budget) (c .before .before .before .before .before .before .before .before .if1 .left) (rw (c .before .before .before .before .operation2 .given .1) at (c .before .before .before .before .before .before .form-of .ensures)) (c .before .reaching .ensures ∙ ap (reachedAnswer (c .before .before .before .before .operation2 .given .0 .1 .1 .0)) (c .before .before .on-immediate .ensures) ∙ immediate-reached (c .before .before .before .before .operation2 .given .0 .0) (c .before .before .before .before .operation2 .given .0 .1 .0) (getD (c .before .before .before .before .before .before .before .before .before .before .args .s .now) (c .before .before .before .before .before .before .before .before .before .before .args .at) 0) (c .before .before .before .before .before .before .before .before .before .before .args .at + 1) (drop (c .before .before .before .before .before .before .before .before .before .before .args .at + 1) (c .before .before .before .before .before .before .before .before .before .before .args .s .now)) (c .before .before .before .before .operation2 .given .0 .1 .1 .0)) (c .answered3 .ensures)
 
 decode-instruction-answered-requires-4 : (t : ℕ) → decode-instruction-lts.Need-answered-requires-4 (claims t) (decode-instruction-at t) decode-instruction.Post
-decode-instruction-answered-requires-4 t c κs = ends-behind (c .before .before .before .before .before .before .before .before .args .s .now) (c .before .before .before .before .before .before .before .before .args .at) (c .before .before .before .before .before .before .before .before .args .budget) (c .before .before .before .before .before .before .if1 .left) (rw (c .before .before .operation3 .given .1) at (c .before .before .before .before .form-of .ensures)) (c .on-displacement .ensures)
+decode-instruction-answered-requires-4 t c κs = ends-behind (c .before .before .before .before .before .before .before .before .before .args .s .now) (c .before .before .before .before .before .before .before .before .before .args .at) (c .before .before .before .before .before .before .before .before .before .args .budget) (c .before .before .before .before .before .before .before .if1 .left) (rw (c .before .before .before .operation3 .given .1) at (c .before .before .before .before .before .form-of .ensures)) (c .reaching2 .ensures ∙ ap (reachedAnswer (c .before .before .before .operation3 .given .0 .1 .1 .0)) (c .before .on-displacement .ensures) ∙ displacement-reached (c .before .before .before .operation3 .given .0 .0) (c .before .before .before .operation3 .given .0 .1 .0) (getD (c .before .before .before .before .before .before .before .before .before .args .s .now) (c .before .before .before .before .before .before .before .before .before .args .at) 0) (c .before .before .before .before .before .before .before .before .before .args .at + 1) (drop (c .before .before .before .before .before .before .before .before .before .args .at + 1) (c .before .before .before .before .before .before .before .before .before .args .s .now)) (c .before .before .before .operation3 .given .0 .1 .1 .0))
 
 decode-instruction-returns-9 : (t : ℕ) → decode-instruction-lts.Need-returns-9 (claims t) (decode-instruction-at t) decode-instruction.Post
-decode-instruction-returns-9 t c = no-prefix (c .before .before .before .before .before .before .before .before .before .args .s .now) (c .before .before .before .before .before .before .before .before .before .args .at) (c .before .before .before .before .before .before .before .before .before .args .budget) (c .before .before .before .before .before .before .before .if1 .left) (rw (c .before .before .before .operation3 .given .1) at (c .before .before .before .before .before .form-of .ensures)) (c .before .on-displacement .ensures) (c .answered4 .ensures)
+decode-instruction-returns-9 t c = no-prefix (c .before .before .before .before .before .before .before .before .before .before .args .s .now) (c .before .before .before .before .before .before .before .before .before .before .args .at) (c .before .before .before .before .before .before .before .before .before .before .args .budget) (c .before .before .before .before .before .before .before .before .if1 .left) (rw (c .before .before .before .before .operation3 .given .1) at (c .before .before .before .before .before .before .form-of .ensures)) (c .before .reaching2 .ensures ∙ ap (reachedAnswer (c .before .before .before .before .operation3 .given .0 .1 .1 .0)) (c .before .before .on-displacement .ensures) ∙ displacement-reached (c .before .before .before .before .operation3 .given .0 .0) (c .before .before .before .before .operation3 .given .0 .1 .0) (getD (c .before .before .before .before .before .before .before .before .before .before .args .s .now) (c .before .before .before .before .before .before .before .before .before .before .args .at) 0) (c .before .before .before .before .before .before .before .before .before .before .args .at + 1) (drop (c .before .before .before .before .before .before .before .before .before .before .args .at + 1) (c .before .before .before .before .before .before .before .before .before .before .args .s .now)) (c .before .before .before .before .operation3 .given .0 .1 .1 .0)) (c .answered4 .ensures)
 
 decode-instruction-answered-requires-5 : (t : ℕ) → decode-instruction-lts.Need-answered-requires-5 (claims t) (decode-instruction-at t) decode-instruction.Post
-decode-instruction-answered-requires-5 t c κs = ends-behind (c .before .before .before .before .before .before .before .before .args .s .now) (c .before .before .before .before .before .before .before .before .args .at) (c .before .before .before .before .before .before .before .before .args .budget) (c .before .before .before .before .before .before .if1 .left) (rw (c .before .before .operation4 .given .1) at (c .before .before .before .before .form-of .ensures)) (c .far .ensures)
+decode-instruction-answered-requires-5 t c κs = ends-behind (c .before .before .before .before .before .before .before .before .before .args .s .now) (c .before .before .before .before .before .before .before .before .before .args .at) (c .before .before .before .before .before .before .before .before .before .args .budget) (c .before .before .before .before .before .before .before .if1 .left) (rw (c .before .before .before .operation4 .given .1) at (c .before .before .before .before .before .form-of .ensures)) (c .reaching3 .ensures ∙ ap (reachedAnswer Far) (c .before .far .ensures) ∙ row-reached Far (getD (c .before .before .before .before .before .before .before .before .before .args .s .now) (c .before .before .before .before .before .before .before .before .before .args .at) 0) (far (c .before .before .before .operation4 .given .0 .0)) (c .before .before .before .before .before .before .before .before .before .args .at + 1) (drop (c .before .before .before .before .before .before .before .before .before .args .at + 1) (c .before .before .before .before .before .before .before .before .before .args .s .now)))
 
 decode-instruction-returns-10 : (t : ℕ) → decode-instruction-lts.Need-returns-10 (claims t) (decode-instruction-at t) decode-instruction.Post
-decode-instruction-returns-10 t c = no-prefix (c .before .before .before .before .before .before .before .before .before .args .s .now) (c .before .before .before .before .before .before .before .before .before .args .at) (c .before .before .before .before .before .before .before .before .before .args .budget) (c .before .before .before .before .before .before .before .if1 .left) (rw (c .before .before .before .operation4 .given .1) at (c .before .before .before .before .before .form-of .ensures)) (c .before .far .ensures) (c .answered5 .ensures)
+decode-instruction-returns-10 t c = no-prefix (c .before .before .before .before .before .before .before .before .before .before .args .s .now) (c .before .before .before .before .before .before .before .before .before .before .args .at) (c .before .before .before .before .before .before .before .before .before .before .args .budget) (c .before .before .before .before .before .before .before .before .if1 .left) (rw (c .before .before .before .before .operation4 .given .1) at (c .before .before .before .before .before .before .form-of .ensures)) (c .before .reaching3 .ensures ∙ ap (reachedAnswer Far) (c .before .before .far .ensures) ∙ row-reached Far (getD (c .before .before .before .before .before .before .before .before .before .before .args .s .now) (c .before .before .before .before .before .before .before .before .before .before .args .at) 0) (far (c .before .before .before .before .operation4 .given .0 .0)) (c .before .before .before .before .before .before .before .before .before .before .args .at + 1) (drop (c .before .before .before .before .before .before .before .before .before .before .args .at + 1) (c .before .before .before .before .before .before .before .before .before .before .args .s .now))) (c .answered5 .ensures)
 
 decode-instruction-answered-requires-6 : (t : ℕ) → decode-instruction-lts.Need-answered-requires-6 (claims t) (decode-instruction-at t) decode-instruction.Post
 decode-instruction-answered-requires-6 t c κs = ends-behind (c .before .before .before .before .before .before .before .args .s .now) (c .before .before .before .before .before .before .before .args .at) (c .before .before .before .before .before .before .before .args .budget) (c .before .before .before .before .before .if1 .left) (rw (c .before .enum-told4 .given .1) at (c .before .before .before .form-of .ensures)) (c .escape .ensures)
@@ -192,15 +197,18 @@ pub +decode-instruction-spec : {M : Type 1} → statement M
     (λ c. search needs)
     (λ c. omega arith)
     (λ c κs. search needs)
+    (λ c κs. search needs)
     (decode-instruction-answered-requires-3 t)
     (decode-instruction-returns-8 t)
     (λ c. search needs)
     (λ c. omega arith)
     (λ c κs. search needs)
+    (λ c κs. search needs)
     (decode-instruction-answered-requires-4 t)
     (decode-instruction-returns-9 t)
     (λ c. search needs)
     (λ c. omega arith)
+    (λ c κs. search needs)
     (λ c κs. search needs)
     (decode-instruction-answered-requires-5 t)
     (decode-instruction-returns-10 t)

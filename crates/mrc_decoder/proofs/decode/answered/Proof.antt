@@ -1,4 +1,4 @@
--- What is read says its end, and that the position is not past it.
+-- The position is not past the end of what is counted.
 -- Assumes nothing.
 use native.Mathlib.Omega.{arith}
 use borrow.Author.Needs.{needs}
@@ -8,8 +8,8 @@ use Rattle.mrc_decoder.proofs.decode.answered.Tie as tie
 enum-known-read : tie.Need-enum-known-read
 enum-known-read c = search needs
 
-sub-t7 : tie.Need-sub-t7
-sub-t7 c = omega (arith, rw (c .before .read .given .1) at (c .before .before .before .pre))
+sub-t9 : tie.Need-sub-t9
+sub-t9 c = omega (arith, rw (c .before .read .given .1) at (c .before .before .before .pre))
 
 returns : tie.Need-returns
 returns c = rw (c .before .read .given .1)
@@ -17,8 +17,8 @@ returns c = rw (c .before .read .given .1)
 enum-known-read-2 : tie.Need-enum-known-read-2
 enum-known-read-2 c = search needs
 
-sub-t8 : tie.Need-sub-t8
-sub-t8 c = omega (arith, rw (c .before .read2 .given .1) at (c .before .before .before .pre))
+sub-t10 : tie.Need-sub-t10
+sub-t10 c = omega (arith, rw (c .before .read2 .given .1) at (c .before .before .before .pre))
 
 returns-2 : tie.Need-returns-2
 returns-2 c = rw (c .before .read2 .given .1)
@@ -28,8 +28,8 @@ answered-spec =
     tie.close
     (tie.spec
     enum-known-read
-    sub-t7
+    sub-t9
     returns
     enum-known-read-2
-    sub-t8
+    sub-t10
     returns-2)

@@ -33,7 +33,7 @@ group-fe-requires : tie.Need-group-fe-requires
 group-fe-requires c κs = search needs
 
 returns-2 : tie.Need-returns-2
-returns-2 c = then-behind (c .before .before .before .before .before .before .before .before .args .size) (c .before .before .before .before .before .before .before .before .args .s .now) (c .before .before .before .before .before .before .before .before .args .at) (behind (modRMForm (c .before .before .before .before .before .before .before .before .args .form) (c .before .before .before .before .before .before .before .before .args .opcode)) (c .before .before .before .before .before .before .before .before .args .size)) (sym (c .before .before .before .before .operand .given .1) ∙ c .before .before .before .before .before .before .read-operand .ensures) (rw (c .before .enum-told2 .given .1) (c .group-fe .ensures (c .before .before .before .before .before .before .before .before .args .size)))
+returns-2 c = then-behind (c .before .before .before .before .before .before .before .before .args .size) (c .before .before .before .before .before .before .before .before .args .s .now) (c .before .before .before .before .before .before .before .before .args .at) (behind (modRMForm (c .before .before .before .before .before .before .before .before .args .form) (c .before .before .before .before .before .before .before .before .args .opcode)) (c .before .before .before .before .before .before .before .before .args .size)) (sym (c .before .before .before .before .operand .given .1) ∙ c .before .before .before .before .before .before .read-operand .ensures) (rw (c .before .enum-told2 .given .1) (c .group-fe .ensures))
 
 enum-told-3 : tie.Need-enum-told-3
 enum-told-3 c = search needs

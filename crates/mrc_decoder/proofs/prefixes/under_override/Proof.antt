@@ -14,11 +14,11 @@ enum-known-inner c = search needs
 enum-told : tie.Need-enum-told
 enum-told c = search needs
 
-add-t22 : tie.Need-add-t22
-add-t22 c = let h = rw (c .before .before .before .inner .given .1) at (c .before .before .before .before .before .before .pre) in omega arith
+add-t20 : tie.Need-add-t20
+add-t20 c = let h = rw (c .before .before .before .inner .given .1) at (c .before .before .before .before .before .before .pre) in omega arith
 
-add-t23 : tie.Need-add-t23
-add-t23 c = let h = rw (c .before .before .before .inner .given .1) at (c .before .before .before .before .before .before .pre) in omega arith
+add-t21 : tie.Need-add-t21
+add-t21 c = let h = rw (c .before .before .before .inner .given .1) at (c .before .before .before .before .before .before .pre) in omega arith
 
 enum-known-operands : tie.Need-enum-known-operands
 enum-known-operands c = search needs
@@ -26,11 +26,14 @@ enum-known-operands c = search needs
 override-segment-requires : tie.Need-override-segment-requires
 override-segment-requires c κs = search needs
 
-add-t26 : tie.Need-add-t26
-add-t26 c = let h = rw (c .before .before .before .before .before .inner .given .1) at (c .before .before .before .before .before .before .before .before .pre) in omega arith
+on-requires : tie.Need-on-requires
+on-requires c κs = search needs
 
-add-t27 : tie.Need-add-t27
-add-t27 c = let h = rw (c .before .before .before .before .before .inner .given .1) at (c .before .before .before .before .before .before .before .before .pre) in omega arith
+add-t24 : tie.Need-add-t24
+add-t24 c = let h = rw (c .before .before .before .before .before .before .inner .given .1) at (c .before .before .before .before .before .before .before .before .before .pre) in omega arith
+
+add-t25 : tie.Need-add-t25
+add-t25 c = let h = rw (c .before .before .before .before .before .before .inner .given .1) at (c .before .before .before .before .before .before .before .before .before .pre) in omega arith
 
 enum-known-operands-2 : tie.Need-enum-known-operands-2
 enum-known-operands-2 c = search needs
@@ -41,11 +44,14 @@ override-segment-requires-2 c κs = search needs
 override-segment-requires-3 : tie.Need-override-segment-requires-3
 override-segment-requires-3 c κs = search needs
 
-add-t31 : tie.Need-add-t31
-add-t31 c = let h = rw (c .before .before .before .before .before .before .inner .given .1) at (c .before .before .before .before .before .before .before .before .before .pre) in omega arith
+on-requires-2 : tie.Need-on-requires-2
+on-requires-2 c κs = search needs
 
-add-t32 : tie.Need-add-t32
-add-t32 c = let h = rw (c .before .before .before .before .before .before .inner .given .1) at (c .before .before .before .before .before .before .before .before .before .pre) in omega arith
+add-t29 : tie.Need-add-t29
+add-t29 c = let h = rw (c .before .before .before .before .before .before .before .inner .given .1) at (c .before .before .before .before .before .before .before .before .before .before .pre) in omega arith
+
+add-t30 : tie.Need-add-t30
+add-t30 c = let h = rw (c .before .before .before .before .before .before .before .inner .given .1) at (c .before .before .before .before .before .before .before .before .before .before .pre) in omega arith
 
 enum-known-inner-2 : tie.Need-enum-known-inner-2
 enum-known-inner-2 c = search needs
@@ -53,20 +59,20 @@ enum-known-inner-2 c = search needs
 refusal-under-requires : tie.Need-refusal-under-requires
 refusal-under-requires c κs = search needs
 
-add-t34 : tie.Need-add-t34
-add-t34 c = let h = rw (c .before .before .inner2 .given .1) at (c .before .before .before .before .before .pre) in omega arith
+add-t32 : tie.Need-add-t32
+add-t32 c = let h = rw (c .before .before .inner2 .given .1) at (c .before .before .before .before .before .pre) in omega arith
 
-add-t35 : tie.Need-add-t35
-add-t35 c = let h = rw (c .before .before .inner2 .given .1) at (c .before .before .before .before .before .pre) in omega arith
+add-t33 : tie.Need-add-t33
+add-t33 c = let h = rw (c .before .before .inner2 .given .1) at (c .before .before .before .before .before .pre) in omega arith
 
 returns : tie.Need-returns
 returns c = rw (c .before .before .before .inner .given .1, c .enum-told .given .1)
 
 returns-2 : tie.Need-returns-2
-returns-2 c = rw (c .before .before .before .before .before .inner .given .1, c .before .before .operands .given .1, c .override-segment .ensures, c .before .before .before .before .before .before .before .from-low-bits .ensures)
+returns-2 c = rw (c .before .before .before .before .before .before .inner .given .1, c .before .before .before .operands .given .1, c .on .ensures, c .before .override-segment .ensures, c .before .before .before .before .before .before .before .before .from-low-bits .ensures)
 
 returns-3 : tie.Need-returns-3
-returns-3 c = rw (c .before .before .before .before .before .before .inner .given .1, c .before .before .before .operands2 .given .1, c .before .override-segment2 .ensures, c .override-segment3 .ensures, c .before .before .before .before .before .before .before .before .from-low-bits .ensures)
+returns-3 c = rw (c .before .before .before .before .before .before .before .inner .given .1, c .before .before .before .before .operands2 .given .1, c .on2 .ensures, c .before .before .override-segment2 .ensures, c .before .override-segment3 .ensures, c .before .before .before .before .before .before .before .before .before .from-low-bits .ensures)
 
 returns-4 : tie.Need-returns-4
 returns-4 c = rw (c .before .before .inner2 .given .1, c .refusal-under .ensures)
@@ -78,21 +84,23 @@ under-override-spec =
     from-low-bits-requires
     enum-known-inner
     enum-told
-    add-t22
-    add-t23
+    add-t20
+    add-t21
     enum-known-operands
     override-segment-requires
-    add-t26
-    add-t27
+    on-requires
+    add-t24
+    add-t25
     enum-known-operands-2
     override-segment-requires-2
     override-segment-requires-3
-    add-t31
-    add-t32
+    on-requires-2
+    add-t29
+    add-t30
     enum-known-inner-2
     refusal-under-requires
-    add-t34
-    add-t35
+    add-t32
+    add-t33
     returns
     returns-2
     returns-3

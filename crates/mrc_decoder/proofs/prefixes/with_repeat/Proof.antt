@@ -11,23 +11,26 @@ repeat-of-requires c κs = search needs
 enum-known-inner : tie.Need-enum-known-inner
 enum-known-inner c = search needs
 
-add-t15 : tie.Need-add-t15
-add-t15 c = let h = rw (c .before .inner .given .1) at (c .before .before .before .before .pre) in omega arith
+repeated-requires : tie.Need-repeated-requires
+repeated-requires c κs = search needs
 
-add-t16 : tie.Need-add-t16
-add-t16 c = let h = rw (c .before .inner .given .1) at (c .before .before .before .before .pre) in omega arith
+add-t13 : tie.Need-add-t13
+add-t13 c = let h = rw (c .before .before .inner .given .1) at (c .before .before .before .before .before .pre) in omega arith
+
+add-t14 : tie.Need-add-t14
+add-t14 c = let h = rw (c .before .before .inner .given .1) at (c .before .before .before .before .before .pre) in omega arith
 
 enum-known-inner-2 : tie.Need-enum-known-inner-2
 enum-known-inner-2 c = search needs
 
-add-t17 : tie.Need-add-t17
-add-t17 c = let h = rw (c .before .inner2 .given .1) at (c .before .before .before .before .pre) in omega arith
+add-t15 : tie.Need-add-t15
+add-t15 c = let h = rw (c .before .inner2 .given .1) at (c .before .before .before .before .pre) in omega arith
 
-add-t18 : tie.Need-add-t18
-add-t18 c = let h = rw (c .before .inner2 .given .1) at (c .before .before .before .before .pre) in omega arith
+add-t16 : tie.Need-add-t16
+add-t16 c = let h = rw (c .before .inner2 .given .1) at (c .before .before .before .before .pre) in omega arith
 
 returns : tie.Need-returns
-returns c = rw (c .before .inner .given .1, c .before .before .before .repeat-of .ensures)
+returns c = rw (c .before .before .inner .given .1, c .repeated .ensures, c .before .before .before .before .repeat-of .ensures)
 
 returns-2 : tie.Need-returns-2
 returns-2 c = rw (c .before .inner2 .given .1)
@@ -38,10 +41,11 @@ with-repeat-spec =
     (tie.spec
     repeat-of-requires
     enum-known-inner
+    repeated-requires
+    add-t13
+    add-t14
+    enum-known-inner-2
     add-t15
     add-t16
-    enum-known-inner-2
-    add-t17
-    add-t18
     returns
     returns-2)

@@ -19,20 +19,20 @@ read-immediate-requires c κs = search needs
 enum-known-immediate : tie.Need-enum-known-immediate
 enum-known-immediate c = search needs
 
-new-requires : tie.Need-new-requires
-new-requires c κs = search needs
+add-decoded : tie.Need-add-decoded
+add-decoded c = omega (arith, took (anImmediate (c .before .before .before .before .from-low-bit .result)) (c .before .before .before .before .before .before .args .s .now) (c .before .before .before .before .before .before .args .at) (immediate-is (sym (c .before .immediate .given .1) ∙ c .before .before .before .read-immediate .ensures)))
 
-add-t17 : tie.Need-add-t17
-add-t17 c = omega (arith, took (anImmediate (c .before .before .before .before .before .from-low-bit .result)) (c .before .before .before .before .before .before .before .args .s .now) (c .before .before .before .before .before .before .before .args .at) (immediate-is (sym (c .before .before .immediate .given .1) ∙ c .before .before .before .before .read-immediate .ensures)))
+decoded-requires : tie.Need-decoded-requires
+decoded-requires c κs = search needs
 
 returns : tie.Need-returns
-returns c = rw (c .new .ensures, ← c .before .before .before .before .before .from-low-bit .ensures) (ap (formRead (c .before .before .before .before .before .before .before .args .at)) (done-at (anImmediate (c .before .before .before .before .before .from-low-bit .result)) _ (c .before .before .before .before .before .before .before .args .s .now) (c .before .before .before .before .before .before .before .args .at) (immediate-is (sym (c .before .before .immediate .given .1) ∙ c .before .before .before .before .read-immediate .ensures)) refl))
+returns c = rw (c .decoded .ensures, ← c .before .before .before .before .before .from-low-bit .ensures) (ap (formRead (c .before .before .before .before .before .before .before .args .at)) (done-at (anImmediate (c .before .before .before .before .before .from-low-bit .result)) _ (c .before .before .before .before .before .before .before .args .s .now) (c .before .before .before .before .before .before .before .args .at) (immediate-is (sym (c .before .before .immediate .given .1) ∙ c .before .before .before .before .read-immediate .ensures)) refl))
 
 enum-known-e : tie.Need-enum-known-e
 enum-known-e c = search needs
 
-add-t18 : tie.Need-add-t18
-add-t18 c = omega (arith, took (anImmediate (c .before .before .before .before .from-low-bit .result)) (c .before .before .before .before .before .before .args .s .now) (c .before .before .before .before .before .before .args .at) (immediate-is (sym (c .before .e .given .1) ∙ c .before .before .before .read-immediate .ensures)))
+add-t17 : tie.Need-add-t17
+add-t17 c = omega (arith, took (anImmediate (c .before .before .before .before .from-low-bit .result)) (c .before .before .before .before .before .before .args .s .now) (c .before .before .before .before .before .before .args .at) (immediate-is (sym (c .before .e .given .1) ∙ c .before .before .before .read-immediate .ensures)))
 
 returns-2 : tie.Need-returns-2
 returns-2 c = rw (← c .before .before .before .before .from-low-bit .ensures) (ap (formRead (c .before .before .before .before .before .before .args .at)) (stop-at (anImmediate (c .before .before .before .before .from-low-bit .result)) _ (c .before .before .before .before .before .before .args .s .now) (c .before .before .before .before .before .before .args .at) (immediate-is (sym (c .before .e .given .1) ∙ c .before .before .before .read-immediate .ensures))))
@@ -44,9 +44,9 @@ immediate-to-accumulator-spec =
     from-low-bit-requires
     read-immediate-requires
     enum-known-immediate
-    new-requires
-    add-t17
+    add-decoded
+    decoded-requires
     returns
     enum-known-e
-    add-t18
+    add-t17
     returns-2)

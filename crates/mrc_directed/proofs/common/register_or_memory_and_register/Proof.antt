@@ -12,17 +12,17 @@ from-low-bits-requires c κs = search needs
 reg-first-requires : tie.Need-reg-first-requires
 reg-first-requires c κs = search needs
 
-new-requires : tie.Need-new-requires
-new-requires c κs = search needs
+decoded-requires : tie.Need-decoded-requires
+decoded-requires c κs = search needs
 
 returns : tie.Need-returns
-returns c = rw (c .new .ensures, c .before .before .before .from-low-bits .ensures, sym (c .before .before .reg-first .ensures) ∙ c .before .if1 .taken, add-zero)
+returns c = rw (c .decoded .ensures, c .before .before .before .from-low-bits .ensures, sym (c .before .before .reg-first .ensures) ∙ c .before .if1 .taken, add-zero)
 
-new-requires-2 : tie.Need-new-requires-2
-new-requires-2 c κs = search needs
+decoded-requires-2 : tie.Need-decoded-requires-2
+decoded-requires-2 c κs = search needs
 
 returns-2 : tie.Need-returns-2
-returns-2 c = rw (c .new2 .ensures, c .before .before .before .from-low-bits .ensures, sym (c .before .before .reg-first .ensures) ∙ c .before .if1 .left, add-zero)
+returns-2 c = rw (c .decoded2 .ensures, c .before .before .before .from-low-bits .ensures, sym (c .before .before .reg-first .ensures) ∙ c .before .if1 .left, add-zero)
 
 pub register-or-memory-and-register-spec : {M : Type 1} → statement M
 register-or-memory-and-register-spec =
@@ -30,7 +30,7 @@ register-or-memory-and-register-spec =
     (tie.spec
     from-low-bits-requires
     reg-first-requires
-    new-requires
+    decoded-requires
     returns
-    new-requires-2
+    decoded-requires-2
     returns-2)

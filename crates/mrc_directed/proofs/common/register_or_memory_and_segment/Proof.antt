@@ -28,17 +28,17 @@ enum-known-segment c = search needs
 d-bit-requires : tie.Need-d-bit-requires
 d-bit-requires c κs = search needs
 
-new-requires : tie.Need-new-requires
-new-requires c κs = search needs
+decoded-requires : tie.Need-decoded-requires
+decoded-requires c κs = search needs
 
 returns : tie.Need-returns
-returns c = rw (c .new .ensures, sym (c .before .before .d-bit .ensures) ∙ c .before .if1 .taken, found (regField (c .before .before .before .before .before .before .before .before .args .byte)) (λ g. done (two MOV (Operand.Segment g) (c .before .before .before .before .before .before .before .before .args .reg-mem))) (sym (c .before .before .before .before .segment .given .1) ∙ c .before .before .before .before .before .before .try-from-encoding .ensures .answer ∙ ap segmentField (c .before .before .before .before .before .before .before .reg-field .ensures)), add-zero (c .before .before .before .before .before .before .before .before .args .at))
+returns c = rw (c .decoded .ensures, sym (c .before .before .d-bit .ensures) ∙ c .before .if1 .taken, found (regField (c .before .before .before .before .before .before .before .before .args .byte)) (λ g. done (two MOV (Operand.Segment g) (c .before .before .before .before .before .before .before .before .args .reg-mem))) (sym (c .before .before .before .before .segment .given .1) ∙ c .before .before .before .before .before .before .try-from-encoding .ensures .answer ∙ ap segmentField (c .before .before .before .before .before .before .before .reg-field .ensures)), add-zero (c .before .before .before .before .before .before .before .before .args .at))
 
-new-requires-2 : tie.Need-new-requires-2
-new-requires-2 c κs = search needs
+decoded-requires-2 : tie.Need-decoded-requires-2
+decoded-requires-2 c κs = search needs
 
 returns-2 : tie.Need-returns-2
-returns-2 c = rw (c .new2 .ensures, sym (c .before .before .d-bit .ensures) ∙ c .before .if1 .left, found (regField (c .before .before .before .before .before .before .before .before .args .byte)) (λ g. done (two MOV (c .before .before .before .before .before .before .before .before .args .reg-mem) (Operand.Segment g))) (sym (c .before .before .before .before .segment .given .1) ∙ c .before .before .before .before .before .before .try-from-encoding .ensures .answer ∙ ap segmentField (c .before .before .before .before .before .before .before .reg-field .ensures)), add-zero (c .before .before .before .before .before .before .before .before .args .at))
+returns-2 c = rw (c .decoded2 .ensures, sym (c .before .before .d-bit .ensures) ∙ c .before .if1 .left, found (regField (c .before .before .before .before .before .before .before .before .args .byte)) (λ g. done (two MOV (c .before .before .before .before .before .before .before .before .args .reg-mem) (Operand.Segment g))) (sym (c .before .before .before .before .segment .given .1) ∙ c .before .before .before .before .before .before .try-from-encoding .ensures .answer ∙ ap segmentField (c .before .before .before .before .before .before .before .reg-field .ensures)), add-zero (c .before .before .before .before .before .before .before .before .args .at))
 
 enum-known-e : tie.Need-enum-known-e
 enum-known-e c = search needs
@@ -54,9 +54,9 @@ register-or-memory-and-segment-spec =
     try-from-encoding-requires
     enum-known-segment
     d-bit-requires
-    new-requires
+    decoded-requires
     returns
-    new-requires-2
+    decoded-requires-2
     returns-2
     enum-known-e
     returns-3)

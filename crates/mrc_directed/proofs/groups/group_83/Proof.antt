@@ -25,20 +25,20 @@ reg-field-requires c κs = search needs
 group80-operation-requires : tie.Need-group80-operation-requires
 group80-operation-requires c κs = search needs
 
-new-requires : tie.Need-new-requires
-new-requires c κs = search needs
+add-decoded : tie.Need-add-decoded
+add-decoded c = omega (arith, took aByte (c .before .before .before .before .before .before .before .before .args .s .now) (c .before .before .before .before .before .before .before .before .args .at) (byte-is (sym (c .before .before .before .before .immediate .given .1) ∙ c .before .before .before .before .before .before .read-u8 .ensures)))
 
-add-t17 : tie.Need-add-t17
-add-t17 c = omega (arith, took aByte (c .before .before .before .before .before .before .before .before .before .args .s .now) (c .before .before .before .before .before .before .before .before .before .args .at) (byte-is (sym (c .before .before .before .before .before .immediate .given .1) ∙ c .before .before .before .before .before .before .before .read-u8 .ensures)))
+decoded-requires : tie.Need-decoded-requires
+decoded-requires c κs = search needs
 
 returns : tie.Need-returns
-returns c = rw (c .new .ensures, c .before .before .before .widened .ensures, c .before .group80-operation .ensures, c .before .before .reg-field .ensures) (ap (formRead (c .before .before .before .before .before .before .before .before .before .args .at)) (done-at aByte _ (c .before .before .before .before .before .before .before .before .before .args .s .now) (c .before .before .before .before .before .before .before .before .before .args .at) (byte-is (sym (c .before .before .before .before .before .immediate .given .1) ∙ c .before .before .before .before .before .before .before .read-u8 .ensures)) refl))
+returns c = rw (c .decoded .ensures, c .before .before .before .widened .ensures, c .before .group80-operation .ensures, c .before .before .reg-field .ensures) (ap (formRead (c .before .before .before .before .before .before .before .before .before .args .at)) (done-at aByte _ (c .before .before .before .before .before .before .before .before .before .args .s .now) (c .before .before .before .before .before .before .before .before .before .args .at) (byte-is (sym (c .before .before .before .before .before .immediate .given .1) ∙ c .before .before .before .before .before .before .before .read-u8 .ensures)) refl))
 
 enum-known-e : tie.Need-enum-known-e
 enum-known-e c = search needs
 
-add-t18 : tie.Need-add-t18
-add-t18 c = omega (arith, took aByte (c .before .before .before .before .before .args .s .now) (c .before .before .before .before .before .args .at) (byte-is (sym (c .before .e .given .1) ∙ c .before .before .before .read-u8 .ensures)))
+add-t17 : tie.Need-add-t17
+add-t17 c = omega (arith, took aByte (c .before .before .before .before .before .args .s .now) (c .before .before .before .before .before .args .at) (byte-is (sym (c .before .e .given .1) ∙ c .before .before .before .read-u8 .ensures)))
 
 returns-2 : tie.Need-returns-2
 returns-2 c = ap (formRead (c .before .before .before .before .before .args .at)) (stop-at aByte _ (c .before .before .before .before .before .args .s .now) (c .before .before .before .before .before .args .at) (byte-is (sym (c .before .e .given .1) ∙ c .before .before .before .read-u8 .ensures)))
@@ -52,9 +52,9 @@ group-83-spec =
     widened-requires
     reg-field-requires
     group80-operation-requires
-    new-requires
-    add-t17
+    add-decoded
+    decoded-requires
     returns
     enum-known-e
-    add-t18
+    add-t17
     returns-2)

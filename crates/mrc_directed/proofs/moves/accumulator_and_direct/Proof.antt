@@ -26,29 +26,29 @@ enum-known-address c = search needs
 d-bit-requires : tie.Need-d-bit-requires
 d-bit-requires c κs = search needs
 
-new-requires : tie.Need-new-requires
-new-requires c κs = search needs
+add-decoded : tie.Need-add-decoded
+add-decoded c = omega (arith, took aWord (c .before .before .before .before .before .before .before .before .args .s .now) (c .before .before .before .before .before .before .before .before .args .at) (word-is (sym (c .before .before .before .address .given .1) ∙ c .before .before .before .before .before .read-u16 .ensures)))
 
-add-t20 : tie.Need-add-t20
-add-t20 c = omega (arith, took aWord (c .before .before .before .before .before .before .before .before .before .args .s .now) (c .before .before .before .before .before .before .before .before .before .args .at) (word-is (sym (c .before .before .before .before .address .given .1) ∙ c .before .before .before .before .before .before .read-u16 .ensures)))
+decoded-requires : tie.Need-decoded-requires
+decoded-requires c κs = search needs
 
 returns : tie.Need-returns
-returns c = rw (c .new .ensures, ← c .before .before .before .before .before .before .before .from-low-bit .ensures, sym (c .before .before .d-bit .ensures) ∙ c .before .if1 .taken) (ap (formRead (c .before .before .before .before .before .before .before .before .before .args .at)) (done-at aWord _ (c .before .before .before .before .before .before .before .before .before .args .s .now) (c .before .before .before .before .before .before .before .before .before .args .at) (word-is (sym (c .before .before .before .before .address .given .1) ∙ c .before .before .before .before .before .before .read-u16 .ensures)) refl))
+returns c = rw (c .decoded .ensures, ← c .before .before .before .before .before .before .before .from-low-bit .ensures, sym (c .before .before .d-bit .ensures) ∙ c .before .if1 .taken) (ap (formRead (c .before .before .before .before .before .before .before .before .before .args .at)) (done-at aWord _ (c .before .before .before .before .before .before .before .before .before .args .s .now) (c .before .before .before .before .before .before .before .before .before .args .at) (word-is (sym (c .before .before .before .before .address .given .1) ∙ c .before .before .before .before .before .before .read-u16 .ensures)) refl))
 
-new-requires-2 : tie.Need-new-requires-2
-new-requires-2 c κs = search needs
+add-decoded-2 : tie.Need-add-decoded-2
+add-decoded-2 c = omega (arith, took aWord (c .before .before .before .before .before .before .before .before .args .s .now) (c .before .before .before .before .before .before .before .before .args .at) (word-is (sym (c .before .before .before .address .given .1) ∙ c .before .before .before .before .before .read-u16 .ensures)))
 
-add-t23 : tie.Need-add-t23
-add-t23 c = omega (arith, took aWord (c .before .before .before .before .before .before .before .before .before .args .s .now) (c .before .before .before .before .before .before .before .before .before .args .at) (word-is (sym (c .before .before .before .before .address .given .1) ∙ c .before .before .before .before .before .before .read-u16 .ensures)))
+decoded-requires-2 : tie.Need-decoded-requires-2
+decoded-requires-2 c κs = search needs
 
 returns-2 : tie.Need-returns-2
-returns-2 c = rw (c .new2 .ensures, ← c .before .before .before .before .before .before .before .from-low-bit .ensures, sym (c .before .before .d-bit .ensures) ∙ c .before .if1 .left) (ap (formRead (c .before .before .before .before .before .before .before .before .before .args .at)) (done-at aWord _ (c .before .before .before .before .before .before .before .before .before .args .s .now) (c .before .before .before .before .before .before .before .before .before .args .at) (word-is (sym (c .before .before .before .before .address .given .1) ∙ c .before .before .before .before .before .before .read-u16 .ensures)) refl))
+returns-2 c = rw (c .decoded2 .ensures, ← c .before .before .before .before .before .before .before .from-low-bit .ensures, sym (c .before .before .d-bit .ensures) ∙ c .before .if1 .left) (ap (formRead (c .before .before .before .before .before .before .before .before .before .args .at)) (done-at aWord _ (c .before .before .before .before .before .before .before .before .before .args .s .now) (c .before .before .before .before .before .before .before .before .before .args .at) (word-is (sym (c .before .before .before .before .address .given .1) ∙ c .before .before .before .before .before .before .read-u16 .ensures)) refl))
 
 enum-known-e : tie.Need-enum-known-e
 enum-known-e c = search needs
 
-add-t24 : tie.Need-add-t24
-add-t24 c = omega (arith, took aWord (c .before .before .before .before .before .before .args .s .now) (c .before .before .before .before .before .before .args .at) (word-is (sym (c .before .e .given .1) ∙ c .before .before .before .read-u16 .ensures)))
+add-t22 : tie.Need-add-t22
+add-t22 c = omega (arith, took aWord (c .before .before .before .before .before .before .args .s .now) (c .before .before .before .before .before .before .args .at) (word-is (sym (c .before .e .given .1) ∙ c .before .before .before .read-u16 .ensures)))
 
 returns-3 : tie.Need-returns-3
 returns-3 c = ap (formRead (c .before .before .before .before .before .before .args .at)) (stops-either aWord _ _ (c .before .before .before .before .before .before .args .opcode) (directAcc (sizeBy (c .before .before .before .before .before .before .args .opcode))) (accDirect (sizeBy (c .before .before .before .before .before .before .args .opcode))) (c .before .before .before .before .before .before .args .s .now) (c .before .before .before .before .before .before .args .at) (dBit (c .before .before .before .before .before .before .args .opcode)) refl refl (word-is (sym (c .before .e .given .1) ∙ c .before .before .before .read-u16 .ensures)))
@@ -61,12 +61,12 @@ accumulator-and-direct-spec =
     read-u16-requires
     enum-known-address
     d-bit-requires
-    new-requires
-    add-t20
+    add-decoded
+    decoded-requires
     returns
-    new-requires-2
-    add-t23
+    add-decoded-2
+    decoded-requires-2
     returns-2
     enum-known-e
-    add-t24
+    add-t22
     returns-3)

@@ -20,20 +20,20 @@ read-immediate-requires c κs = search needs
 enum-known-immediate : tie.Need-enum-known-immediate
 enum-known-immediate c = search needs
 
-new-requires : tie.Need-new-requires
-new-requires c κs = search needs
+add-decoded : tie.Need-add-decoded
+add-decoded c = omega (arith, took (anImmediate OperandSize.Byte) (c .before .before .before .before .before .before .args .s .now) (c .before .before .before .before .before .before .args .at) (immediate-is (sym (c .before .immediate .given .1) ∙ c .before .before .before .read-immediate .ensures)))
 
-add-t18 : tie.Need-add-t18
-add-t18 c = omega (arith, took (anImmediate OperandSize.Byte) (c .before .before .before .before .before .before .before .args .s .now) (c .before .before .before .before .before .before .before .args .at) (immediate-is (sym (c .before .before .immediate .given .1) ∙ c .before .before .before .before .read-immediate .ensures)))
+decoded-requires : tie.Need-decoded-requires
+decoded-requires c κs = search needs
 
 returns : tie.Need-returns
-returns c = rw (c .new .ensures, ← c .before .before .before .before .before .from-low-bit .ensures) (ap (formRead (c .before .before .before .before .before .before .before .args .at)) (done-at (anImmediate OperandSize.Byte) _ (c .before .before .before .before .before .before .before .args .s .now) (c .before .before .before .before .before .before .before .args .at) (immediate-is (sym (c .before .before .immediate .given .1) ∙ c .before .before .before .before .read-immediate .ensures)) refl))
+returns c = rw (c .decoded .ensures, ← c .before .before .before .before .before .from-low-bit .ensures) (ap (formRead (c .before .before .before .before .before .before .before .args .at)) (done-at (anImmediate OperandSize.Byte) _ (c .before .before .before .before .before .before .before .args .s .now) (c .before .before .before .before .before .before .before .args .at) (immediate-is (sym (c .before .before .immediate .given .1) ∙ c .before .before .before .before .read-immediate .ensures)) refl))
 
 enum-known-e : tie.Need-enum-known-e
 enum-known-e c = search needs
 
-add-t19 : tie.Need-add-t19
-add-t19 c = omega (arith, took (anImmediate OperandSize.Byte) (c .before .before .before .before .before .before .args .s .now) (c .before .before .before .before .before .before .args .at) (immediate-is (sym (c .before .e .given .1) ∙ c .before .before .before .read-immediate .ensures)))
+add-t18 : tie.Need-add-t18
+add-t18 c = omega (arith, took (anImmediate OperandSize.Byte) (c .before .before .before .before .before .before .args .s .now) (c .before .before .before .before .before .before .args .at) (immediate-is (sym (c .before .e .given .1) ∙ c .before .before .before .read-immediate .ensures)))
 
 returns-2 : tie.Need-returns-2
 returns-2 c = ap (formRead (c .before .before .before .before .before .before .args .at)) (stop-at (anImmediate OperandSize.Byte) _ (c .before .before .before .before .before .before .args .s .now) (c .before .before .before .before .before .before .args .at) (immediate-is (sym (c .before .e .given .1) ∙ c .before .before .before .read-immediate .ensures)))
@@ -45,9 +45,9 @@ out-port-spec =
     from-low-bit-requires
     read-immediate-requires
     enum-known-immediate
-    new-requires
-    add-t18
+    add-decoded
+    decoded-requires
     returns
     enum-known-e
-    add-t19
+    add-t18
     returns-2)

@@ -15,17 +15,17 @@ group2-operation-requires c κs = search needs
 d-bit-requires : tie.Need-d-bit-requires
 d-bit-requires c κs = search needs
 
-new-requires : tie.Need-new-requires
-new-requires c κs = search needs
+decoded-requires : tie.Need-decoded-requires
+decoded-requires c κs = search needs
 
 returns : tie.Need-returns
-returns c = rw (c .new .ensures, c .before .before .before .group2-operation .ensures, c .before .before .before .before .reg-field .ensures, sym (c .before .before .d-bit .ensures) ∙ c .before .if1 .taken, add-zero)
+returns c = rw (c .decoded .ensures, c .before .before .before .group2-operation .ensures, c .before .before .before .before .reg-field .ensures, sym (c .before .before .d-bit .ensures) ∙ c .before .if1 .taken, add-zero)
 
-new-requires-2 : tie.Need-new-requires-2
-new-requires-2 c κs = search needs
+decoded-requires-2 : tie.Need-decoded-requires-2
+decoded-requires-2 c κs = search needs
 
 returns-2 : tie.Need-returns-2
-returns-2 c = rw (c .new2 .ensures, c .before .before .before .group2-operation .ensures, c .before .before .before .before .reg-field .ensures, sym (c .before .before .d-bit .ensures) ∙ c .before .if1 .left, add-zero)
+returns-2 c = rw (c .decoded2 .ensures, c .before .before .before .group2-operation .ensures, c .before .before .before .before .reg-field .ensures, sym (c .before .before .d-bit .ensures) ∙ c .before .if1 .left, add-zero)
 
 pub shift-by-count-spec : {M : Type 1} → statement M
 shift-by-count-spec =
@@ -34,7 +34,7 @@ shift-by-count-spec =
     reg-field-requires
     group2-operation-requires
     d-bit-requires
-    new-requires
+    decoded-requires
     returns
-    new-requires-2
+    decoded-requires-2
     returns-2)

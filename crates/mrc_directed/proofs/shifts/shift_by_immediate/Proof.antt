@@ -23,20 +23,20 @@ reg-field-requires c κs = search needs
 group2-operation-requires : tie.Need-group2-operation-requires
 group2-operation-requires c κs = search needs
 
-new-requires : tie.Need-new-requires
-new-requires c κs = search needs
+add-decoded : tie.Need-add-decoded
+add-decoded c = omega (arith, took (anImmediate OperandSize.Byte) (c .before .before .before .before .before .before .before .args .s .now) (c .before .before .before .before .before .before .before .args .at) (immediate-is (sym (c .before .before .before .immediate .given .1) ∙ c .before .before .before .before .before .read-immediate .ensures)))
 
-add-t16 : tie.Need-add-t16
-add-t16 c = omega (arith, took (anImmediate OperandSize.Byte) (c .before .before .before .before .before .before .before .before .args .s .now) (c .before .before .before .before .before .before .before .before .args .at) (immediate-is (sym (c .before .before .before .before .immediate .given .1) ∙ c .before .before .before .before .before .before .read-immediate .ensures)))
+decoded-requires : tie.Need-decoded-requires
+decoded-requires c κs = search needs
 
 returns : tie.Need-returns
-returns c size = rw (c .new .ensures, c .before .group2-operation .ensures, c .before .before .reg-field .ensures) (ap (formRead (c .before .before .before .before .before .before .before .before .args .at)) (done-at (anImmediate OperandSize.Byte) _ (c .before .before .before .before .before .before .before .before .args .s .now) (c .before .before .before .before .before .before .before .before .args .at) (immediate-is (sym (c .before .before .before .before .immediate .given .1) ∙ c .before .before .before .before .before .before .read-immediate .ensures)) refl))
+returns c size = rw (c .decoded .ensures, c .before .group2-operation .ensures, c .before .before .reg-field .ensures) (ap (formRead (c .before .before .before .before .before .before .before .before .args .at)) (done-at (anImmediate OperandSize.Byte) _ (c .before .before .before .before .before .before .before .before .args .s .now) (c .before .before .before .before .before .before .before .before .args .at) (immediate-is (sym (c .before .before .before .before .immediate .given .1) ∙ c .before .before .before .before .before .before .read-immediate .ensures)) refl))
 
 enum-known-e : tie.Need-enum-known-e
 enum-known-e c = search needs
 
-add-t17 : tie.Need-add-t17
-add-t17 c = omega (arith, took (anImmediate OperandSize.Byte) (c .before .before .before .before .before .args .s .now) (c .before .before .before .before .before .args .at) (immediate-is (sym (c .before .e .given .1) ∙ c .before .before .before .read-immediate .ensures)))
+add-t16 : tie.Need-add-t16
+add-t16 c = omega (arith, took (anImmediate OperandSize.Byte) (c .before .before .before .before .before .args .s .now) (c .before .before .before .before .before .args .at) (immediate-is (sym (c .before .e .given .1) ∙ c .before .before .before .read-immediate .ensures)))
 
 returns-2 : tie.Need-returns-2
 returns-2 c size = ap (formRead (c .before .before .before .before .before .args .at)) (stop-at (anImmediate OperandSize.Byte) _ (c .before .before .before .before .before .args .s .now) (c .before .before .before .before .before .args .at) (immediate-is (sym (c .before .e .given .1) ∙ c .before .before .before .read-immediate .ensures)))
@@ -49,9 +49,9 @@ shift-by-immediate-spec =
     enum-known-immediate
     reg-field-requires
     group2-operation-requires
-    new-requires
-    add-t16
+    add-decoded
+    decoded-requires
     returns
     enum-known-e
-    add-t17
+    add-t16
     returns-2)

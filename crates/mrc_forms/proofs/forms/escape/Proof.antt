@@ -16,20 +16,20 @@ read-u8-requires c κs = search needs
 enum-known-n : tie.Need-enum-known-n
 enum-known-n c = search needs
 
-new-requires : tie.Need-new-requires
-new-requires c κs = search needs
+add-decoded : tie.Need-add-decoded
+add-decoded c = omega (arith, took aByte (c .before .before .before .before .before .args .s .now) (c .before .before .before .before .before .args .at) (byte-is (sym (c .before .n .given .1) ∙ c .before .before .before .read-u8 .ensures)))
 
-add-t10 : tie.Need-add-t10
-add-t10 c = omega (arith, took aByte (c .before .before .before .before .before .before .args .s .now) (c .before .before .before .before .before .before .args .at) (byte-is (sym (c .before .before .n .given .1) ∙ c .before .before .before .before .read-u8 .ensures)))
+decoded-requires : tie.Need-decoded-requires
+decoded-requires c κs = search needs
 
 returns : tie.Need-returns
-returns c = rw (c .new .ensures) (ap (formRead (c .before .before .before .before .before .before .args .at)) (done-at aByte _ (c .before .before .before .before .before .before .args .s .now) (c .before .before .before .before .before .before .args .at) (byte-is (sym (c .before .before .n .given .1) ∙ c .before .before .before .before .read-u8 .ensures)) refl))
+returns c = rw (c .decoded .ensures) (ap (formRead (c .before .before .before .before .before .before .args .at)) (done-at aByte _ (c .before .before .before .before .before .before .args .s .now) (c .before .before .before .before .before .before .args .at) (byte-is (sym (c .before .before .n .given .1) ∙ c .before .before .before .before .read-u8 .ensures)) refl))
 
 enum-known-e : tie.Need-enum-known-e
 enum-known-e c = search needs
 
-add-t11 : tie.Need-add-t11
-add-t11 c = omega (arith, took aByte (c .before .before .before .before .before .args .s .now) (c .before .before .before .before .before .args .at) (byte-is (sym (c .before .e .given .1) ∙ c .before .before .before .read-u8 .ensures)))
+add-t10 : tie.Need-add-t10
+add-t10 c = omega (arith, took aByte (c .before .before .before .before .before .args .s .now) (c .before .before .before .before .before .args .at) (byte-is (sym (c .before .e .given .1) ∙ c .before .before .before .read-u8 .ensures)))
 
 returns-2 : tie.Need-returns-2
 returns-2 c = ap (formRead (c .before .before .before .before .before .args .at)) (stop-at aByte _ (c .before .before .before .before .before .args .s .now) (c .before .before .before .before .before .args .at) (byte-is (sym (c .before .e .given .1) ∙ c .before .before .before .read-u8 .ensures)))
@@ -40,9 +40,9 @@ escape-spec =
     (tie.spec
     read-u8-requires
     enum-known-n
-    new-requires
-    add-t10
+    add-decoded
+    decoded-requires
     returns
     enum-known-e
-    add-t11
+    add-t10
     returns-2)

@@ -27,26 +27,26 @@ read-u16-requires-2 c κs = search needs
 enum-known-segment : tie.Need-enum-known-segment
 enum-known-segment c = search needs
 
-new-requires : tie.Need-new-requires
-new-requires c κs = search needs
+add-decoded : tie.Need-add-decoded
+add-decoded c = omega (arith, took aWord (c .before .before .before .before .before .before .before .before .before .args .s .now) (c .before .before .before .before .before .before .before .before .before .args .at) (word-is (sym (c .before .before .before .before .before .offset .given .1) ∙ c .before .before .before .before .before .before .before .read-u16 .ensures)), took aWord (c .before .before .before .before .before .before .before .before .before .args .s .now) (c .before .before .before .before .before .before .before .before .before .args .at + c .before .before .before .before .before .offset .given .0 .1 .0) (word-is (sym (c .before .segment .given .1) ∙ c .before .before .before .read-u162 .ensures)))
 
-add-t19 : tie.Need-add-t19
-add-t19 c = omega (arith, took aWord (c .before .before .before .before .before .before .before .before .before .before .args .s .now) (c .before .before .before .before .before .before .before .before .before .before .args .at) (word-is (sym (c .before .before .before .before .before .before .offset .given .1) ∙ c .before .before .before .before .before .before .before .before .read-u16 .ensures)), took aWord (c .before .before .before .before .before .before .before .before .before .before .args .s .now) (c .before .before .before .before .before .before .before .before .before .before .args .at + c .before .before .before .before .before .before .offset .given .0 .1 .0) (word-is (sym (c .before .before .segment .given .1) ∙ c .before .before .before .before .read-u162 .ensures)))
+add-decoded-2 : tie.Need-add-decoded-2
+add-decoded-2 c = omega (arith, took aWord (c .before .before .before .before .before .before .before .before .before .args .s .now) (c .before .before .before .before .before .before .before .before .before .args .at) (word-is (sym (c .before .before .before .before .before .offset .given .1) ∙ c .before .before .before .before .before .before .before .read-u16 .ensures)), took aWord (c .before .before .before .before .before .before .before .before .before .args .s .now) (c .before .before .before .before .before .before .before .before .before .args .at + c .before .before .before .before .before .offset .given .0 .1 .0) (word-is (sym (c .before .segment .given .1) ∙ c .before .before .before .read-u162 .ensures)))
 
-add-t20 : tie.Need-add-t20
-add-t20 c = omega (arith, took aWord (c .before .before .before .before .before .before .before .before .before .before .args .s .now) (c .before .before .before .before .before .before .before .before .before .before .args .at) (word-is (sym (c .before .before .before .before .before .before .offset .given .1) ∙ c .before .before .before .before .before .before .before .before .read-u16 .ensures)), took aWord (c .before .before .before .before .before .before .before .before .before .before .args .s .now) (c .before .before .before .before .before .before .before .before .before .before .args .at + c .before .before .before .before .before .before .offset .given .0 .1 .0) (word-is (sym (c .before .before .segment .given .1) ∙ c .before .before .before .before .read-u162 .ensures)))
+decoded-requires : tie.Need-decoded-requires
+decoded-requires c κs = search needs
 
 returns : tie.Need-returns
-returns c = rw (c .new .ensures, add-assoc (c .before .before .before .before .before .before .before .before .before .before .args .at)) (ap (formRead (c .before .before .before .before .before .before .before .before .before .before .args .at)) (then-at aWord _ (c .before .before .before .before .before .before .before .before .before .before .args .s .now) (c .before .before .before .before .before .before .before .before .before .before .args .at) (word-is (sym (c .before .before .before .before .before .before .offset .given .1) ∙ c .before .before .before .before .before .before .before .before .read-u16 .ensures)) (done-at aWord _ (c .before .before .before .before .before .before .before .before .before .before .args .s .now) (c .before .before .before .before .before .before .before .before .before .before .args .at + c .before .before .before .before .before .before .offset .given .0 .1 .0) (word-is (sym (c .before .before .segment .given .1) ∙ c .before .before .before .before .read-u162 .ensures)) refl)))
+returns c = rw (c .decoded .ensures, add-assoc (c .before .before .before .before .before .before .before .before .before .before .args .at)) (ap (formRead (c .before .before .before .before .before .before .before .before .before .before .args .at)) (then-at aWord _ (c .before .before .before .before .before .before .before .before .before .before .args .s .now) (c .before .before .before .before .before .before .before .before .before .before .args .at) (word-is (sym (c .before .before .before .before .before .before .offset .given .1) ∙ c .before .before .before .before .before .before .before .before .read-u16 .ensures)) (done-at aWord _ (c .before .before .before .before .before .before .before .before .before .before .args .s .now) (c .before .before .before .before .before .before .before .before .before .before .args .at + c .before .before .before .before .before .before .offset .given .0 .1 .0) (word-is (sym (c .before .before .segment .given .1) ∙ c .before .before .before .before .read-u162 .ensures)) refl)))
 
 enum-known-e : tie.Need-enum-known-e
 enum-known-e c = search needs
 
+add-t20 : tie.Need-add-t20
+add-t20 c = omega (arith, took aWord (c .before .before .before .before .before .before .before .before .before .args .s .now) (c .before .before .before .before .before .before .before .before .before .args .at) (word-is (sym (c .before .before .before .before .before .offset .given .1) ∙ c .before .before .before .before .before .before .before .read-u16 .ensures)), took aWord (c .before .before .before .before .before .before .before .before .before .args .s .now) (c .before .before .before .before .before .before .before .before .before .args .at + c .before .before .before .before .before .offset .given .0 .1 .0) (word-is (sym (c .before .e .given .1) ∙ c .before .before .before .read-u162 .ensures)))
+
 add-t21 : tie.Need-add-t21
 add-t21 c = omega (arith, took aWord (c .before .before .before .before .before .before .before .before .before .args .s .now) (c .before .before .before .before .before .before .before .before .before .args .at) (word-is (sym (c .before .before .before .before .before .offset .given .1) ∙ c .before .before .before .before .before .before .before .read-u16 .ensures)), took aWord (c .before .before .before .before .before .before .before .before .before .args .s .now) (c .before .before .before .before .before .before .before .before .before .args .at + c .before .before .before .before .before .offset .given .0 .1 .0) (word-is (sym (c .before .e .given .1) ∙ c .before .before .before .read-u162 .ensures)))
-
-add-t22 : tie.Need-add-t22
-add-t22 c = omega (arith, took aWord (c .before .before .before .before .before .before .before .before .before .args .s .now) (c .before .before .before .before .before .before .before .before .before .args .at) (word-is (sym (c .before .before .before .before .before .offset .given .1) ∙ c .before .before .before .before .before .before .before .read-u16 .ensures)), took aWord (c .before .before .before .before .before .before .before .before .before .args .s .now) (c .before .before .before .before .before .before .before .before .before .args .at + c .before .before .before .before .before .offset .given .0 .1 .0) (word-is (sym (c .before .e .given .1) ∙ c .before .before .before .read-u162 .ensures)))
 
 returns-2 : tie.Need-returns-2
 returns-2 c = rw (add-assoc (c .before .before .before .before .before .before .before .before .before .args .at)) (ap (formRead (c .before .before .before .before .before .before .before .before .before .args .at)) (then-at aWord _ (c .before .before .before .before .before .before .before .before .before .args .s .now) (c .before .before .before .before .before .before .before .before .before .args .at) (word-is (sym (c .before .before .before .before .before .offset .given .1) ∙ c .before .before .before .before .before .before .before .read-u16 .ensures)) (stop-at aWord _ (c .before .before .before .before .before .before .before .before .before .args .s .now) (c .before .before .before .before .before .before .before .before .before .args .at + c .before .before .before .before .before .offset .given .0 .1 .0) (word-is (sym (c .before .e .given .1) ∙ c .before .before .before .read-u162 .ensures)))))
@@ -54,8 +54,8 @@ returns-2 c = rw (add-assoc (c .before .before .before .before .before .before .
 enum-known-e-2 : tie.Need-enum-known-e-2
 enum-known-e-2 c = search needs
 
-add-t23 : tie.Need-add-t23
-add-t23 c = omega (arith, took aWord (c .before .before .before .before .before .args .s .now) (c .before .before .before .before .before .args .at) (word-is (sym (c .before .e2 .given .1) ∙ c .before .before .before .read-u16 .ensures)))
+add-t22 : tie.Need-add-t22
+add-t22 c = omega (arith, took aWord (c .before .before .before .before .before .args .s .now) (c .before .before .before .before .before .args .at) (word-is (sym (c .before .e2 .given .1) ∙ c .before .before .before .read-u16 .ensures)))
 
 returns-3 : tie.Need-returns-3
 returns-3 c = ap (formRead (c .before .before .before .before .before .args .at)) (stop-at aWord _ (c .before .before .before .before .before .args .s .now) (c .before .before .before .before .before .args .at) (word-is (sym (c .before .e2 .given .1) ∙ c .before .before .before .read-u16 .ensures)))
@@ -69,14 +69,14 @@ far-spec =
     add-read-u16
     read-u16-requires-2
     enum-known-segment
-    new-requires
-    add-t19
-    add-t20
+    add-decoded
+    add-decoded-2
+    decoded-requires
     returns
     enum-known-e
+    add-t20
     add-t21
-    add-t22
     returns-2
     enum-known-e-2
-    add-t23
+    add-t22
     returns-3)

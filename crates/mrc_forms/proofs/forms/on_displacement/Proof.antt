@@ -16,20 +16,20 @@ read-displacement-requires c κs = search needs
 enum-known-displacement : tie.Need-enum-known-displacement
 enum-known-displacement c = search needs
 
-new-requires : tie.Need-new-requires
-new-requires c κs = search needs
+add-decoded : tie.Need-add-decoded
+add-decoded c = omega (arith, took (aDisplacement (c .before .before .before .before .before .args .size)) (c .before .before .before .before .before .args .s .now) (c .before .before .before .before .before .args .at) (displacement-is (sym (c .before .displacement .given .1) ∙ c .before .before .before .read-displacement .ensures)))
 
-add-t13 : tie.Need-add-t13
-add-t13 c = omega (arith, took (aDisplacement (c .before .before .before .before .before .before .args .size)) (c .before .before .before .before .before .before .args .s .now) (c .before .before .before .before .before .before .args .at) (displacement-is (sym (c .before .before .displacement .given .1) ∙ c .before .before .before .before .read-displacement .ensures)))
+decoded-requires : tie.Need-decoded-requires
+decoded-requires c κs = search needs
 
 returns : tie.Need-returns
-returns c = rw (c .new .ensures) (ap (formRead (c .before .before .before .before .before .before .args .at)) (done-at (aDisplacement (c .before .before .before .before .before .before .args .size)) _ (c .before .before .before .before .before .before .args .s .now) (c .before .before .before .before .before .before .args .at) (displacement-is (sym (c .before .before .displacement .given .1) ∙ c .before .before .before .before .read-displacement .ensures)) refl))
+returns c = rw (c .decoded .ensures) (ap (formRead (c .before .before .before .before .before .before .args .at)) (done-at (aDisplacement (c .before .before .before .before .before .before .args .size)) _ (c .before .before .before .before .before .before .args .s .now) (c .before .before .before .before .before .before .args .at) (displacement-is (sym (c .before .before .displacement .given .1) ∙ c .before .before .before .before .read-displacement .ensures)) refl))
 
 enum-known-e : tie.Need-enum-known-e
 enum-known-e c = search needs
 
-add-t14 : tie.Need-add-t14
-add-t14 c = omega (arith, took (aDisplacement (c .before .before .before .before .before .args .size)) (c .before .before .before .before .before .args .s .now) (c .before .before .before .before .before .args .at) (displacement-is (sym (c .before .e .given .1) ∙ c .before .before .before .read-displacement .ensures)))
+add-t13 : tie.Need-add-t13
+add-t13 c = omega (arith, took (aDisplacement (c .before .before .before .before .before .args .size)) (c .before .before .before .before .before .args .s .now) (c .before .before .before .before .before .args .at) (displacement-is (sym (c .before .e .given .1) ∙ c .before .before .before .read-displacement .ensures)))
 
 returns-2 : tie.Need-returns-2
 returns-2 c = ap (formRead (c .before .before .before .before .before .args .at)) (stop-at (aDisplacement (c .before .before .before .before .before .args .size)) _ (c .before .before .before .before .before .args .s .now) (c .before .before .before .before .before .args .at) (displacement-is (sym (c .before .e .given .1) ∙ c .before .before .before .read-displacement .ensures)))
@@ -40,9 +40,9 @@ on-displacement-spec =
     (tie.spec
     read-displacement-requires
     enum-known-displacement
-    new-requires
-    add-t13
+    add-decoded
+    decoded-requires
     returns
     enum-known-e
-    add-t14
+    add-t13
     returns-2)

@@ -16,20 +16,20 @@ read-immediate-requires c κs = search needs
 enum-known-immediate : tie.Need-enum-known-immediate
 enum-known-immediate c = search needs
 
-new-requires : tie.Need-new-requires
-new-requires c κs = search needs
+add-decoded : tie.Need-add-decoded
+add-decoded c = omega (arith, took (anImmediate (c .before .before .before .before .before .args .size)) (c .before .before .before .before .before .args .s .now) (c .before .before .before .before .before .args .at) (immediate-is (sym (c .before .immediate .given .1) ∙ c .before .before .before .read-immediate .ensures)))
 
-add-t13 : tie.Need-add-t13
-add-t13 c = omega (arith, took (anImmediate (c .before .before .before .before .before .before .args .size)) (c .before .before .before .before .before .before .args .s .now) (c .before .before .before .before .before .before .args .at) (immediate-is (sym (c .before .before .immediate .given .1) ∙ c .before .before .before .before .read-immediate .ensures)))
+decoded-requires : tie.Need-decoded-requires
+decoded-requires c κs = search needs
 
 returns : tie.Need-returns
-returns c = rw (c .new .ensures) (ap (formRead (c .before .before .before .before .before .before .args .at)) (done-at (anImmediate (c .before .before .before .before .before .before .args .size)) _ (c .before .before .before .before .before .before .args .s .now) (c .before .before .before .before .before .before .args .at) (immediate-is (sym (c .before .before .immediate .given .1) ∙ c .before .before .before .before .read-immediate .ensures)) refl))
+returns c = rw (c .decoded .ensures) (ap (formRead (c .before .before .before .before .before .before .args .at)) (done-at (anImmediate (c .before .before .before .before .before .before .args .size)) _ (c .before .before .before .before .before .before .args .s .now) (c .before .before .before .before .before .before .args .at) (immediate-is (sym (c .before .before .immediate .given .1) ∙ c .before .before .before .before .read-immediate .ensures)) refl))
 
 enum-known-e : tie.Need-enum-known-e
 enum-known-e c = search needs
 
-add-t14 : tie.Need-add-t14
-add-t14 c = omega (arith, took (anImmediate (c .before .before .before .before .before .args .size)) (c .before .before .before .before .before .args .s .now) (c .before .before .before .before .before .args .at) (immediate-is (sym (c .before .e .given .1) ∙ c .before .before .before .read-immediate .ensures)))
+add-t13 : tie.Need-add-t13
+add-t13 c = omega (arith, took (anImmediate (c .before .before .before .before .before .args .size)) (c .before .before .before .before .before .args .s .now) (c .before .before .before .before .before .args .at) (immediate-is (sym (c .before .e .given .1) ∙ c .before .before .before .read-immediate .ensures)))
 
 returns-2 : tie.Need-returns-2
 returns-2 c = ap (formRead (c .before .before .before .before .before .args .at)) (stop-at (anImmediate (c .before .before .before .before .before .args .size)) _ (c .before .before .before .before .before .args .s .now) (c .before .before .before .before .before .args .at) (immediate-is (sym (c .before .e .given .1) ∙ c .before .before .before .read-immediate .ensures)))
@@ -40,9 +40,9 @@ on-immediate-spec =
     (tie.spec
     read-immediate-requires
     enum-known-immediate
-    new-requires
-    add-t13
+    add-decoded
+    decoded-requires
     returns
     enum-known-e
-    add-t14
+    add-t13
     returns-2)

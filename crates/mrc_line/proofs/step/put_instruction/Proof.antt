@@ -1,4 +1,4 @@
--- Three pieces in a row.
+-- Four pieces in a row.
 -- Assumes nothing.
 use Rattle.mrc_line.specs.Line.{instructionText}
 use Rattle.mrc_line.proofs.Put.{then}
@@ -12,6 +12,9 @@ put-repeat-requires c κs = search needs
 put-name-requires : tie.Need-put-name-requires
 put-name-requires c κs = search needs
 
+put-reach-requires : tie.Need-put-reach-requires
+put-reach-requires c κs = search needs
+
 put-operands-requires : tie.Need-put-operands-requires
 put-operands-requires c κs = search needs
 
@@ -20,9 +23,15 @@ same-length c = search needs
 
 returns : tie.Need-returns
 unfolding instructionText
-returns c = then (c .before .before .before .before .before .before .before .before .before .before .put-repeat .ensures) (then (c .before .before .before .before .before .before .put-name .ensures) (c .before .before .put-operands .ensures))
+returns c = then (c .before .before .before .before .before .before .before .before .before .before .before .before .before .before .put-repeat .ensures) (then (c .before .before .before .before .before .before .before .before .before .before .put-name .ensures) (then (c .before .before .before .before .before .before .put-reach .ensures) (c .before .before .put-operands .ensures)))
 
 pub put-instruction-spec : {M : Type 1} → statement M
 put-instruction-spec =
     tie.close
-    (tie.spec put-repeat-requires put-name-requires put-operands-requires same-length returns)
+    (tie.spec
+    put-repeat-requires
+    put-name-requires
+    put-reach-requires
+    put-operands-requires
+    same-length
+    returns)
