@@ -62,6 +62,43 @@ answers() {
     done <<< "${!name}"
 }
 
+# For each pair of $work/pairs: its first byte and reg, and near, far or, where no call, jump or return is printed, neither.
+distance_of() {
+    run "$1" pairs
+    awk -F '\t' '
+        $1 % 16 == 0 {
+            n = $1 / 16
+            text = tolower($4)
+            far = text ~ /^(lcall|ljmp|lret|retf)|^(call|jmp|ret) (far|dword)|^(call|jmp) 0x[0-9a-f]+:/
+            near = text ~ /^(call|jmp|ret)/
+            printf "%02X /%d%s\t%s\n", n / 16, n % 8, n % 16 < 8 ? "" : " mod 3", far ? "far" : near ? "near" : "neither"
+        }' "$work/steps"
+}
+
+# How many pairs each program takes for near, far and neither as Sangkelod does, and which not.
+distances() {
+    local program
+    distance_of Sangkelod > "$work/own"
+    heading program near far neither "not alike: Sangkelod's word, the program's, and where"
+    for program in "${present[@]}"; do
+        [ "$program" != "the given Rust" ] || continue
+        distance_of "$program" > "$work/other"
+        paste "$work/own" "$work/other" | awk -F '\t' -v program="$program" '
+            $2 == $4 { alike[$2]++; next }
+            {
+                words = $2 " and " $4
+                if (!(words in where))
+                    order[++kinds] = words
+                where[words] = (where[words] == "" ? "" : where[words] ", ") $1
+            }
+            END {
+                for (i = 1; i <= kinds; i++)
+                    cell = cell (i > 1 ? "; " : "") order[i] ": " where[order[i]]
+                printf "| %s | %d | %d | %d | %s |\n", program, alike["near"], alike["far"], alike["neither"], cell
+            }'
+    done
+}
+
 # How the last run ended, over an input of so many bytes: listed where every byte stands in a line and the exit status is 0.
 ending() {
     local said

@@ -1,5 +1,5 @@
--- What the second accounts say of a row: the places of its operands, its operation, its length, how far it goes and which test of reg it has. By the first
--- byte that is what their tables say: each is computed over the 256 rows.
+-- What the second accounts say of a row: the places of its operands, its operation, its length, how far it goes and which test of reg it has. By the
+-- first byte that is what their tables say: each is computed over the 256 rows.
 -- Assumes nothing.
 use mathlib.Core.Path.{_≡_, refl, ap, sym, _∙_}
 use mathlib.Core.Bool.{Bool, true, false, cond}

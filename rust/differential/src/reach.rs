@@ -24,7 +24,7 @@ mod tests {
     use super::*;
 
     #[test]
-    fn as_the_order_has_it() {
+    fn calls_jumps_and_returns_by_their_bytes() {
         for bytes in [[0x9A, 0], [0xEA, 0], [0xCA, 0], [0xCB, 0], [0xFF, 0x1F], [0xFF, 0xE8]] {
             assert_eq!(of(&bytes), FAR, "{bytes:02X?}");
         }
@@ -38,7 +38,7 @@ mod tests {
     }
 
     #[test]
-    fn of_all_first_bytes_and_regs_eight_and_fourteen() {
+    fn how_many_first_bytes_and_regs_are_far_and_near() {
         let counted = |reach| {
             let regs = |opcode| (0..8).map(move |reg| [opcode, reg << 3]);
             let found: Vec<_> = (0..=255).flat_map(regs).filter(|bytes| of(bytes) == reach).collect();
