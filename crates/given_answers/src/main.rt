@@ -1,5 +1,6 @@
-// The given answers, of the Rust that the decoder follows: each line of standard input is a budget, a position, the record of the answer but for its
-// third operand, and the input, in hex digits. Says how many agree with the decoder's answers, and the line of each that does not.
+// The given answers: in reading 1 of the Rust that the decoder follows, and in reading 2 of an account made from that Rust's answers. Each line of
+// standard input is a reading, a budget, a position, the record of the answer but for its third operand, and the input, in hex digits. Says how many
+// agree with the decoder's answers, and the line of each that does not.
 use libc::STDIN_FILENO;
 use libc::STDOUT_FILENO;
 use mrc_c::decode::mrc_decode;
@@ -7,7 +8,7 @@ ghost use Prim.Native.Nat.{_≤_};
 ghost use lib.ListN.{length};
 
 // The room for the stored answers, and for the bytes of one input.
-const ROOM: usize = 460000;
+const ROOM: usize = 560000;
 
 const INPUT: usize = 512;
 
@@ -23,7 +24,7 @@ fn digit(c: u8) -> u8 {
 
 // The byte of the two digits at a position.
 fn hex_at(s: &[u8], at: usize) -> u8
-    requires { ⌜ at ≤ 460600 ⌝ }
+    requires { ⌜ at ≤ 560600 ⌝ }
 {
     digit(byte_at(s, at)) % 16 * 16 + digit(byte_at(s, at + 1)) % 16
 }
@@ -45,7 +46,7 @@ fn line_end(s: &[u8], from: usize) -> usize
 
 // Whether the bytes of a record's first four words, the lowest first, are those whose digits stand at a position, and there is no third operand.
 fn same_record(record: [u64; 5], s: &[u8], at: usize) -> bool
-    requires { ⌜ at ≤ 460500 ⌝ }
+    requires { ⌜ at ≤ 560500 ⌝ }
 {
     let mut i: usize = 0;
     let mut word: u64 = 0;
@@ -64,7 +65,7 @@ fn same_record(record: [u64; 5], s: &[u8], at: usize) -> bool
 
 // Reads the input whose digits stand from a position up to an end, and answers how many bytes it has.
 fn read_input(s: &[u8], from: usize, end: usize, input: &mut [u8]) -> usize
-    requires { ⌜ (from ≤ 460100) × (end ≤ 460000) ⌝ }
+    requires { ⌜ (from ≤ 560100) × (end ≤ 560000) ⌝ }
     ensures { λ r. ⌜ r ≤ length (now (input .entry)) ⌝ }
 {
     let mut n: usize = 0;
@@ -82,15 +83,16 @@ fn read_input(s: &[u8], from: usize, end: usize, input: &mut [u8]) -> usize
 
 // Whether the decoder's answer on the line that starts at a position is the stored one.
 fn agrees(s: &[u8], from: usize, end: usize) -> bool
-    requires { ⌜ (from ≤ 460000) × (end ≤ 460000) ⌝ }
+    requires { ⌜ (from ≤ 560000) × (end ≤ 560000) ⌝ }
 {
-    let budget = hex_at(s, from);
-    let at = 256 * (hex_at(s, from + 3) as usize) + (hex_at(s, from + 5) as usize);
+    let reading = hex_at(s, from);
+    let budget = hex_at(s, from + 3);
+    let at = 256 * (hex_at(s, from + 6) as usize) + (hex_at(s, from + 8) as usize);
     let mut input = [0u8; INPUT];
-    let n = read_input(s, from + 73, end, &mut input);
+    let n = read_input(s, from + 76, end, &mut input);
     let mut record = [0u64; 5];
-    mrc_decode(&input[..n], at, budget, &mut record);
-    same_record(record, s, from + 8)
+    mrc_decode(&input[..n], at, budget, reading, &mut record);
+    same_record(record, s, from + 11)
 }
 
 fn report(agree: u64, differ: u64) {
@@ -101,7 +103,7 @@ fn report(agree: u64, differ: u64) {
 }
 
 fn compare_all(s: &[u8])
-    requires { ⌜ length (now s) ≤ 460000 ⌝ }
+    requires { ⌜ length (now s) ≤ 560000 ⌝ }
 {
     let mut from: usize = 0;
     let mut agree: u64 = 0;

@@ -10,6 +10,7 @@ use native.Mathlib.Omega.{arith}
 use lib.Dec.{eqb, leb}
 use lib.ListN.{length, drop}
 use Rattle.mrc_instruction.specs.declared.errors.Refusal.{Refusal}
+use Rattle.mrc_instruction.specs.declared.reading.Reading.{Reading}
 use Rattle.mrc_instruction.specs.declared.mrrm.RegisterOrMemory.{RegisterOrMemory}
 use Rattle.mrc_instruction.specs.Widths.{words, doubleWords}
 use Rattle.mrc_instruction.specs.Errors.{numberOf}
@@ -33,37 +34,37 @@ use Rattle.mrc_line.proofs.Pages.{page-short}
 use Rattle.mrc_c.specs.Step.{stepCode}
 use Rattle.mrc_c.specs.Line.{lengthOf, lineCode}
 
-module _ (s : List ℕ) (at b : ℕ) (h : b < 256) where
-  pub prefixes-small : prefixes (decodeAt s at b) < words
-  prefixes-small = omega (arith, prefix-count s at b)
+module _ (x : Reading) (s : List ℕ) (at b : ℕ) (h : b < 256) where
+  pub prefixes-small : prefixes (decodeAt x s at b) < words
+  prefixes-small = omega (arith, prefix-count x s at b)
 
-  pub taken-small : taken (decodeAt s at b) < words
-  taken-small = omega (arith, prefix-count s at b, at-most-six s at b)
+  pub taken-small : taken (decodeAt x s at b) < words
+  taken-small = omega (arith, prefix-count x s at b, at-most-six x s at b)
 
-  pub step-whole : (d : Answer) → d ≡ decodeAt s at b → taken d % words + words * (prefixes d % words) + doubleWords * number d ≡ stepCode (decodeAt s at b)
+  pub step-whole : (d : Answer) → d ≡ decodeAt x s at b → taken d % words + words * (prefixes d % words) + doubleWords * number d ≡ stepCode (decodeAt x s at b)
   step-whole d e = rw (e, mod-eq-of-lt taken-small, mod-eq-of-lt prefixes-small) refl
 
-module _ (s : List ℕ) (at room : ℕ) where
-  line-small : (r : LineAnswer) → r ≡ answerOf s at room → (lengthOf r < words) × (lineValues s at r .taken < words)
+module _ (x : Reading) (s : List ℕ) (at room : ℕ) where
+  line-small : (r : LineAnswer) → r ≡ answerOf x s at room → (lengthOf r < words) × (lineValues x s at r .taken < words)
   line-small (LineAnswer.Line len taken) e =
-      let t = told s at room len taken e in
-      (omega (arith, t .len-is, line-longest s at), omega (arith, t .taken-is, line-takes s at (t .inside) .few))
-  line-small (LineAnswer.Refused x) e = (omega arith, omega arith)
+      let t = told x s at room len taken e in
+      (omega (arith, t .len-is, line-longest x s at), omega (arith, t .taken-is, line-takes x s at (t .inside) .few))
+  line-small (LineAnswer.Refused e) h = (omega arith, omega arith)
 
-  pub lengths-small : (lengthOf (answerOf s at room) < words) × (lineValues s at (answerOf s at room) .taken < words)
-  lengths-small = line-small (answerOf s at room) refl
+  pub lengths-small : (lengthOf (answerOf x s at room) < words) × (lineValues x s at (answerOf x s at room) .taken < words)
+  lengths-small = line-small (answerOf x s at room) refl
 
-  pub line-whole : (len taken : ℕ) → LineAnswer.Line len taken ≡ answerOf s at room → len % words + words * (taken % words) ≡ lineCode s at (answerOf s at room)
+  pub line-whole : (len taken : ℕ) → LineAnswer.Line len taken ≡ answerOf x s at room → len % words + words * (taken % words) ≡ lineCode x s at (answerOf x s at room)
   line-whole len taken e =
       let k = line-small (LineAnswer.Line len taken) e in
-      rw (mod-eq-of-lt (k .0), mod-eq-of-lt (k .1)) (omega (arith, ap (lineCode s at) e))
+      rw (mod-eq-of-lt (k .0), mod-eq-of-lt (k .1)) (omega (arith, ap (lineCode x s at) e))
 
-  pub refusal-whole : (x : Refusal) → LineAnswer.Refused x ≡ answerOf s at room → doubleWords * numberOf x ≡ lineCode s at (answerOf s at room)
-  refusal-whole x e = omega (arith, ap (lineCode s at) e)
+  pub refusal-whole : (e : Refusal) → LineAnswer.Refused e ≡ answerOf x s at room → doubleWords * numberOf e ≡ lineCode x s at (answerOf x s at room)
+  refusal-whole e h = omega (arith, ap (lineCode x s at) h)
 
-  pub page-small : (length (textOf s (pageOf s at room)) < doubleWords) × (takenOf s (pageOf s at room) ≤ words)
+  pub page-small : (length (textOf x s (pageOf x s at room)) < doubleWords) × (takenOf x s (pageOf x s at room) ≤ words)
   page-small =
-      let k = page-short s at room in
+      let k = page-short x s at room in
       (omega (arith, k .text, k .taken), omega (arith, k .taken))
 
 -- a ModRM's displacement is at most two bytes

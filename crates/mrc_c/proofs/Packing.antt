@@ -98,7 +98,7 @@ modrm-held h k = record { packed = refl; kept = rw (refusal, byte, taken, regist
 pub no-operand : OperandHeld noOperand 0
 no-operand = record { packed = refl; kept = refl }
 
-pub no-body : BodyHeld (bodyBy 0 0 0 0) 0
+pub no-body : BodyHeld (bodyBy 0 0 0 0 0) 0
 no-body = record { packed = refl; kept = refl }
 
 -- words that hold the parts of a record are those of the record

@@ -6,6 +6,7 @@ use mathlib.Core.List.{List, _++_}
 use Prim.Native.Nat.{ℕ}
 use native.Mathlib.Omega.{arith}
 use lib.ListN.{length, drop, getD}
+use Rattle.mrc_instruction.specs.declared.reading.Reading.{Reading}
 use Rattle.mrc_instruction.specs.Promise.{ExactlyOne}
 use Rattle.mrc_line.specs.Line.{lineText, answerOf, after}
 use Rattle.mrc_line.specs.Page.{textOf, pageOf}
@@ -59,20 +60,20 @@ modrm-settled r k p = record { answer = modrmWords r; meets = modrm-packed r k p
 both : {a b : ℕ} {x y : List ℕ} → a ≡ b → x ≡ y → _≡_ {A = ℕ × List ℕ} (a, x) (b, y)
 both {a = a} {y = y} e h = ap (λ z. (a, z)) h ∙ ap (λ n. (n, y)) e
 
-pub line-settled : (image : List ℕ) (at : ℕ) (out : List ℕ) → ExactlyOne {A = ℕ × List ℕ} (λ p. LineWritten image at out (p .0) (p .1))
-line-settled image at out =
-    let a = answerOf image at (length out) in
+pub line-settled : (x : Reading) (image : List ℕ) (at : ℕ) (out : List ℕ) → ExactlyOne {A = ℕ × List ℕ} (λ p. LineWritten x image at out (p .0) (p .1))
+line-settled x image at out =
+    let a = answerOf x image at (length out) in
     record {
-      answer = (lineCode image at a, after a (lineText image at) out);
+      answer = (lineCode x image at a, after a (lineText x image at) out);
       meets = record { answer = refl; buffer = refl };
       only = λ p w. both (w .answer) (w .buffer);
     }
 
-pub page-settled : (image : List ℕ) (at : ℕ) (out : List ℕ) → ExactlyOne {A = ℕ × List ℕ} (λ p. PageWritten image at out (p .0) (p .1))
-page-settled image at out =
-    let lines = pageOf image at (length out) in
+pub page-settled : (x : Reading) (image : List ℕ) (at : ℕ) (out : List ℕ) → ExactlyOne {A = ℕ × List ℕ} (λ p. PageWritten x image at out (p .0) (p .1))
+page-settled x image at out =
+    let lines = pageOf x image at (length out) in
     record {
-      answer = (pageCode image lines, textOf image lines ++ drop (length (textOf image lines)) out);
+      answer = (pageCode x image lines, textOf x image lines ++ drop (length (textOf x image lines)) out);
       meets = record { answer = refl; buffer = refl };
       only = λ p w. both (w .answer) (w .buffer);
     }

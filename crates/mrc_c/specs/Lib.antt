@@ -1,3 +1,4 @@
+pub mod Readings
 pub mod Words
 pub mod Operands
 pub mod Record

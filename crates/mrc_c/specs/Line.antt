@@ -3,6 +3,7 @@ use Prim.Native.Nat.{ℕ, _+_, _*_}
 use mathlib.Core.Path.{_≡_}
 use mathlib.Core.List.{List}
 use lib.ListN.{length}
+use Rattle.mrc_instruction.specs.declared.reading.Reading.{Reading}
 use Rattle.mrc_instruction.specs.Widths.{words, doubleWords}
 use Rattle.mrc_line.specs.declared.line.LineAnswer.{LineAnswer}
 use Rattle.mrc_line.specs.Line.{lineText, answerOf, lineValues, after}
@@ -13,9 +14,9 @@ lengthOf (LineAnswer.Line len taken) = len
 lengthOf (LineAnswer.Refused e) = 0
 
 -- the line's length, the bytes taken and the refusal's number; the first two are below 65,536
-abbrev pub lineCode : List ℕ → ℕ → LineAnswer → ℕ
-lineCode s at r = lengthOf r + words * lineValues s at r .taken + doubleWords * lineValues s at r .number
+abbrev pub lineCode : Reading → List ℕ → ℕ → LineAnswer → ℕ
+lineCode x s at r = lengthOf r + words * lineValues x s at r .taken + doubleWords * lineValues x s at r .number
 
-pub record LineWritten (s : List ℕ) (at : ℕ) (out : List ℕ) (r : ℕ) (done : List ℕ) : Type 0 where
-  pub answer : r ≡ lineCode s at (answerOf s at (length out))
-  pub buffer : done ≡ after (answerOf s at (length out)) (lineText s at) out
+pub record LineWritten (x : Reading) (s : List ℕ) (at : ℕ) (out : List ℕ) (r : ℕ) (done : List ℕ) : Type 0 where
+  pub answer : r ≡ lineCode x s at (answerOf x s at (length out))
+  pub buffer : done ≡ after (answerOf x s at (length out)) (lineText x s at) out

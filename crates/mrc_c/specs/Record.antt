@@ -1,5 +1,5 @@
--- Rule 15.1: the record of an answer as C and Rust get it: its fields, and the five machine words that they are packed in. The kept override, the
--- displacement bytes written and the third operand have their places, and are 0.
+-- Rule 15.1: the record of an answer as C and Rust get it: its fields, and the five machine words that they are packed in. The displacement
+-- bytes written and the third operand have their places, and are 0.
 use Prim.Native.Nat.{ℕ, _+_, _<_}
 use mathlib.Core.Path.{_≡_}
 use mathlib.Core.List.{List, [], _∷_}
@@ -7,8 +7,10 @@ use lib.ListN.{getD}
 use Rattle.mrc_instruction.specs.declared.instruction.Repeat.{Repeat}
 use Rattle.mrc_instruction.specs.declared.instruction.Repeated.{Repeated}
 use Rattle.mrc_instruction.specs.declared.instruction.Reach.{Reach}
+use Rattle.mrc_instruction.specs.declared.instruction.Kept.{Kept}
 use Rattle.mrc_instruction.specs.declared.instruction.OperandSet.{OperandSet}
 use Rattle.mrc_instruction.specs.Widths.{words}
+use Rattle.mrc_instruction.specs.Register.{segmentCode}
 use Rattle.mrc_instruction.specs.Operation.{operationNumber}
 use Rattle.mrc_rules.specs.declared.Answer.{Answer}
 use Rattle.mrc_rules.specs.Answer.{number, byte, taken, prefixes}
@@ -125,9 +127,14 @@ reachCode Reach.Neither = 0
 reachCode Reach.Near = 1
 reachCode Reach.Far = 2
 
-abbrev pub bodyBy : ℕ → ℕ → ℕ → ℕ → Body
-bodyBy operation repeat reach operands =
-    record { operation = operation; repeat = repeat; reach = reach; kept = 0; written = 0; operands = operands; reserved = 0 }
+-- the segment of the override that is kept, counted from 1
+abbrev pub keptCode : Kept → ℕ
+keptCode Kept.None = 0
+keptCode (Kept.Some segment) = 1 + segmentCode segment
+
+abbrev pub bodyBy : ℕ → ℕ → ℕ → ℕ → ℕ → Body
+bodyBy operation repeat reach kept operands =
+    record { operation = operation; repeat = repeat; reach = reach; kept = kept; written = 0; operands = operands; reserved = 0 }
 
 abbrev pub countOf : OperandSet → ℕ
 countOf OperandSet.None = 0
@@ -148,10 +155,10 @@ sourceOf (OperandSet.DestinationAndSource d s) = operandFields s
 abbrev pub recordOf : Answer → Record
 recordOf (Answer.Decoded i n p) = record {
   head = headOf (Answer.Decoded i n p);
-  body = bodyBy (operationNumber (i .operation)) (repeatCode (i .repeat)) (reachCode (i .reach)) (countOf (i .operands));
+  body = bodyBy (operationNumber (i .operation)) (repeatCode (i .repeat)) (reachCode (i .reach)) (keptCode (i .kept)) (countOf (i .operands));
   destination = destinationOf (i .operands);
   source = sourceOf (i .operands);
   third = noOperand;
 }
 recordOf (Answer.Refused e n p) =
-    record { head = headOf (Answer.Refused e n p); body = bodyBy 0 0 0 0; destination = noOperand; source = noOperand; third = noOperand }
+    record { head = headOf (Answer.Refused e n p); body = bodyBy 0 0 0 0 0; destination = noOperand; source = noOperand; third = noOperand }

@@ -5,6 +5,7 @@ pub mod line;
 pub mod modrm;
 mod operands;
 pub mod page;
+mod readings;
 mod record;
 pub mod sizes;
 pub mod step;

@@ -11,6 +11,7 @@ use native.Mathlib.Omega.{arith}
 use types.Run.{OneOf, hit}
 use mir.Val.{hasKey}
 use lib.Dec.{T}
+use Rattle.mrc_instruction.specs.declared.reading.Reading.{Reading}
 use Rattle.mrc_decoder.specs.Form.{Meaning, overrides, meaningOf}
 
 -- the n numbers from lo on
@@ -47,20 +48,20 @@ not-keyed (ks ∷ kss) n r = neither (hasKey ks n) (keyed kss n) (λ h. r .1 (hi
 abbrev pub unkeyed : List (List ℕ) → (ℕ → Meaning) → ℕ → Meaning
 unkeyed kss f n = cond (keyed kss n) overrides (f n)
 
-pub ranged : (kss : List (List ℕ)) (f : ℕ → Meaning) (lo n byte : ℕ) → map (unkeyed kss f) (upto lo n) ≡ map (unkeyed kss meaningOf) (upto lo n)
-    → lo ≤ byte → byte < lo + n → Rest kss byte → f byte ≡ meaningOf byte
-ranged kss f lo n byte e l h r =
+pub ranged : (x : Reading) (kss : List (List ℕ)) (f : ℕ → Meaning) (lo n byte : ℕ) → map (unkeyed kss f) (upto lo n) ≡ map (unkeyed kss (meaningOf x)) (upto lo n)
+    → lo ≤ byte → byte < lo + n → Rest kss byte → f byte ≡ meaningOf x byte
+ranged x kss f lo n byte e l h r =
     let out = not-keyed kss byte r in
-    let same = each (unkeyed kss f) (unkeyed kss meaningOf) n lo byte e l h in
+    let same = each (unkeyed kss f) (unkeyed kss (meaningOf x)) n lo byte e l h in
     rw out at same
 
 -- the meanings by f, at the keys of an arm
-pub keys : (ks : List ℕ) (f : ℕ → Meaning) (byte : ℕ) → map f ks ≡ map meaningOf ks → OneOf ks byte → f byte ≡ meaningOf byte
-keys [] f byte e o = absurd o
-keys (k ∷ []) f byte e o =
-    let first : f k ≡ meaningOf k = cc in
+pub keys : (x : Reading) (ks : List ℕ) (f : ℕ → Meaning) (byte : ℕ) → map f ks ≡ map (meaningOf x) ks → OneOf ks byte → f byte ≡ meaningOf x byte
+keys x [] f byte e o = absurd o
+keys x (k ∷ []) f byte e o =
+    let first : f k ≡ meaningOf x k = cc in
     rw o first
-keys (k ∷ j ∷ ks) f byte e o =
-    let first : f k ≡ meaningOf k = cc in
-    let others : map f (j ∷ ks) ≡ map meaningOf (j ∷ ks) = cc in
-    ⊎-elim (λ q. rw q first) (λ m. keys (j ∷ ks) f byte others m) o
+keys x (k ∷ j ∷ ks) f byte e o =
+    let first : f k ≡ meaningOf x k = cc in
+    let others : map f (j ∷ ks) ≡ map (meaningOf x) (j ∷ ks) = cc in
+    ⊎-elim (λ q. rw q first) (λ m. keys x (j ∷ ks) f byte others m) o

@@ -1,4 +1,5 @@
 pub mod Arms
+pub mod Keeping
 pub mod ModRM
 pub mod Steps
 pub mod Wrapping

@@ -8,18 +8,18 @@ use native.Mathlib.Omega.{arith}
 use lib.Dec.{eqb, ltb}
 use lib.ListN.{drop}
 use Rattle.mrc_instruction.specs.declared.errors.Refusal.{Refusal}
+use Rattle.mrc_instruction.specs.declared.reading.Reading.{Reading}
 use Rattle.mrc_instruction.specs.declared.operand.OperandSize.{OperandSize}
 use Rattle.mrc_instruction.specs.declared.operand.OperandSize.the-variants.{Word}
 use Rattle.mrc_instruction.specs.declared.operand.Operand.{Operand}
-use Rattle.mrc_instruction.specs.declared.operation.Operation.{Operation}
 use Rattle.mrc_instruction.specs.declared.mrrm.OperandRead.{OperandRead}
-use Rattle.mrc_instruction.specs.Reader.{Reader, done, refuse, Outcome, got, stopped, readFrom}
+use Rattle.mrc_instruction.specs.Reader.{done, refuse, Outcome, got, stopped, readFrom}
 use Rattle.mrc_instruction.specs.Mrrm.{ModRM, regField, aModRM}
 use Rattle.mrc_instruction.specs.Read.{operandRead}
 use Rattle.mrc_instruction.proofs.Sequence.{after, then-at, stop-at}
-use Rattle.mrc_rules.specs.Forms.{Tail, ModRMForm, rmReg, regRm, rmSegment, segmentRm, pop, shiftByOne, shiftByCl, withModRM, rm}
+use Rattle.mrc_rules.specs.Forms.{Tail, ModRMForm, rmSegment, segmentRm, pop, group80, groupC6, groupFE, escapeRm, withModRM, behind, rm}
 use Rattle.mrc_rules.specs.declared.Answer.{Answer}
-use Rattle.mrc_forms.specs.Answers.{formRead, readBehind}
+use Rattle.mrc_forms.specs.Answers.{formRead, readBehind, readBehindIn}
 
 -- n bytes more before the position
 form-after : (at n : ℕ) (o : Outcome Tail) → formRead (at + n) o ≡ formRead at (after n o)
@@ -30,35 +30,35 @@ form-after at n (stopped e k) =
     let count : at + n + k ≡ at + (n + k) = omega arith in
     rw count
 
--- the ModRM at a position is read, and then what K reads behind it; or it is not
-module _ (size : OperandSize) (s : List ℕ) (at : ℕ) (K : Operand → ℕ → Reader Tail) where
-  pub then-behind : {operand : Operand} {next byte : ℕ} {r : Answer} → OperandRead.Got operand next byte ≡ operandRead size at (readFrom aModRM (drop at s))
-      → r ≡ formRead next (readFrom (K operand byte) (drop next s)) → r ≡ formRead at (readFrom (withModRM size K) (drop at s))
+-- the ModRM at a position is read, and then what its form reads behind it; or it is not
+module _ (x : Reading) (form : ModRMForm) (size : OperandSize) (s : List ℕ) (at : ℕ) where
+  pub then-behind : {operand : Operand} {next byte : ℕ} {r : Answer} → OperandRead.Got operand next byte ≡ operandRead x size at (readFrom aModRM (drop at s))
+      → r ≡ formRead next (readFrom (behind x form size operand byte) (drop next s)) → r ≡ formRead at (readFrom (withModRM x size (behind x form size)) (drop at s))
   unfolding withModRM
   then-behind {operand} {next} {byte} {r} = go (readFrom aModRM (drop at s)) refl
     where
-      go : (o : Outcome ModRM) → o ≡ readFrom aModRM (drop at s) → OperandRead.Got operand next byte ≡ operandRead size at o
-          → r ≡ formRead next (readFrom (K operand byte) (drop next s)) → r ≡ formRead at (readFrom (withModRM size K) (drop at s))
+      go : (o : Outcome ModRM) → o ≡ readFrom aModRM (drop at s) → OperandRead.Got operand next byte ≡ operandRead x size at o
+          → r ≡ formRead next (readFrom (behind x form size operand byte) (drop next s)) → r ≡ formRead at (readFrom (withModRM x size (behind x form size)) (drop at s))
       go (got m n) q e f =
-          let named : operand ≡ rm m size = cc in
+          let named : operand ≡ rm x m size = cc in
           let position : next ≡ at + n = cc in
           let its-byte : byte ≡ m .byte = cc in
           (rw (named, position, its-byte) at f)
-          ∙ form-after at n (readFrom (K (rm m size) (m .byte)) (drop (at + n) s))
-          ∙ ap (formRead at) (then-at aModRM (λ m. K (rm m size) (m .byte)) s at q refl)
-      go (stopped x n) q e f = cc
+          ∙ form-after at n (readFrom (behind x form size (rm x m size) (m .byte)) (drop (at + n) s))
+          ∙ ap (formRead at) (then-at aModRM (λ m. behind x form size (rm x m size) (m .byte)) s at q refl)
+      go (stopped y n) q e f = cc
 
-  pub stops-before : {e : Refusal} {end : ℕ} → OperandRead.Refused e end ≡ operandRead size at (readFrom aModRM (drop at s))
-      → Answer.Refused e end 0 ≡ formRead at (readFrom (withModRM size K) (drop at s))
+  pub stops-before : {e : Refusal} {end : ℕ} → OperandRead.Refused e end ≡ operandRead x size at (readFrom aModRM (drop at s))
+      → Answer.Refused e end 0 ≡ formRead at (readFrom (withModRM x size (behind x form size)) (drop at s))
   unfolding withModRM
   stops-before {e} {end} = go (readFrom aModRM (drop at s)) refl
     where
-      go : (o : Outcome ModRM) → o ≡ readFrom aModRM (drop at s) → OperandRead.Refused e end ≡ operandRead size at o
-          → Answer.Refused e end 0 ≡ formRead at (readFrom (withModRM size K) (drop at s))
+      go : (o : Outcome ModRM) → o ≡ readFrom aModRM (drop at s) → OperandRead.Refused e end ≡ operandRead x size at o
+          → Answer.Refused e end 0 ≡ formRead at (readFrom (withModRM x size (behind x form size)) (drop at s))
       go (got m n) q h = cc
-      go (stopped x n) q h =
-          let same-refusal : Answer.Refused e end 0 ≡ Answer.Refused x (at + n) 0 = cc in
-          same-refusal ∙ ap (formRead at) (stop-at aModRM (λ m. K (rm m size) (m .byte)) s at q)
+      go (stopped y n) q h =
+          let same-refusal : Answer.Refused e end 0 ≡ Answer.Refused y (at + n) 0 = cc in
+          same-refusal ∙ ap (formRead at) (stop-at aModRM (λ m. behind x form size (rm x m size) (m .byte)) s at q)
 
 -- where nothing is read behind the ModRM, what stands there does not matter
 tested : (t : Bool) (i : Tail) (e : Refusal) (at : ℕ) (l : List ℕ)
@@ -66,23 +66,24 @@ tested : (t : Bool) (i : Tail) (e : Refusal) (at : ℕ) (l : List ℕ)
 tested true i e at l = refl
 tested false i e at l = refl
 
-module _ (size : OperandSize) (operand : Operand) (byte at : ℕ) (l : List ℕ) where
-  -- a form reads the same from no bytes and from those that stand there
+module _ (x : Reading) (size : OperandSize) (operand : Operand) (byte at : ℕ) (l : List ℕ) where
+  -- a form that both readings read alike reads the same from no bytes and from those that stand there
   abbrev Anywhere : ModRMForm → Type 0
-  Anywhere form = readBehind form size operand byte at [] ≡ readBehind form size operand byte at l
+  Anywhere form = readBehind form size operand byte at [] ≡ readBehindIn x form size operand byte at l
 
   pub pop-anywhere : Anywhere pop
   pop-anywhere = tested (eqb (regField byte) 0) _ _ at l
 
-  pub register-anywhere : (t : Bool) (op : Operation) → Anywhere (cond t (regRm op) (rmReg op))
-  register-anywhere true op = refl
-  register-anywhere false op = refl
+  pub sole-anywhere : (t : Bool) → Anywhere (cond t groupFE escapeRm)
+  sole-anywhere true = refl
+  sole-anywhere false = refl
 
   -- whatever the size, which the operand has already
-  pub segment-anywhere : (t : Bool) → readBehind (cond t segmentRm rmSegment) Word operand byte at [] ≡ readBehind (cond t segmentRm rmSegment) size operand byte at l
+  pub segment-anywhere : (t : Bool) → readBehind (cond t segmentRm rmSegment) Word operand byte at [] ≡ readBehindIn x (cond t segmentRm rmSegment) size operand byte at l
   segment-anywhere true = tested (ltb (regField byte) 4) _ _ at l
   segment-anywhere false = tested (ltb (regField byte) 4) _ _ at l
 
-  pub count-anywhere : (t : Bool) → Anywhere (cond t shiftByCl shiftByOne)
-  count-anywhere true = refl
-  count-anywhere false = refl
+  -- an immediate is read alike
+  pub immediate-alike : (t : Bool) → readBehind (cond t group80 groupC6) size operand byte at l ≡ readBehindIn x (cond t group80 groupC6) size operand byte at l
+  immediate-alike true = refl
+  immediate-alike false = refl

@@ -4,6 +4,7 @@
 use Prim.Native.Nat.{ℕ}
 use mathlib.Core.Path.{_≡_, refl, ap, sym, _∙_}
 use mathlib.Core.List.{List, [], _∷_}
+use Rattle.mrc_instruction.specs.declared.reading.Reading.{Reading}
 use Rattle.mrc_instruction.specs.declared.operand.OperandSize.{OperandSize}
 use Rattle.mrc_instruction.specs.declared.instruction.OperandSet.{OperandSet}
 use Rattle.mrc_instruction.specs.declared.instruction.Reach.{Reach}
@@ -12,7 +13,7 @@ use Rattle.mrc_instruction.specs.declared.operation.Operation.{Operation}
 use Rattle.mrc_instruction.specs.Instruction.{plain, reached}
 use Rattle.mrc_instruction.specs.Reader.{Reader, done, refuse, next, _>>=_, Outcome, got, stopped, more, readFrom}
 use Rattle.mrc_rules.specs.Forms.{Tail, Row, rest, reaching, bare, onImmediate, onDisplacement, anImmediate, aDisplacement}
-use Rattle.mrc_forms.specs.Answers.{formRead, readBy, reachedAnswer}
+use Rattle.mrc_forms.specs.Answers.{formRead, readIn, reachedAnswer}
 use Rattle.mrc_decoder.specs.Form.{withReach}
 
 -- what is got, with how far it goes
@@ -34,10 +35,10 @@ read-reached reach (refuse e) l = refl
 read-reached reach (next k) [] = refl
 read-reached reach (next k) (b ∷ l) = ap more (read-reached reach (k b) l) ∙ more-reached reach (readFrom (k b) l)
 
-pub row-reached : (reach : Reach) (opcode : ℕ) (row : Row) (at : ℕ) (l : List ℕ)
-    → reachedAnswer reach (readBy opcode row at l) ≡ readBy opcode (reaching reach row) at l
-row-reached reach opcode row at l =
-    answer-reached reach at (readFrom (rest opcode row) l) ∙ ap (formRead at) (sym (read-reached reach (rest opcode row) l))
+pub row-reached : (x : Reading) (reach : Reach) (opcode : ℕ) (row : Row) (at : ℕ) (l : List ℕ)
+    → reachedAnswer reach (readIn x opcode row at l) ≡ readIn x opcode (reaching reach row) at l
+row-reached x reach opcode row at l =
+    answer-reached reach at (readFrom (rest x opcode row) l) ∙ ap (formRead at) (sym (read-reached reach (rest x opcode row) l))
 
 -- a plain instruction is neither near nor far
 plain-reached : {A : Type 0} (m : Reader A) (op : Operation) (f : A → OperandSet) (l : List ℕ)
@@ -49,21 +50,21 @@ plain-reached (next k) op f (b ∷ l) =
     sym (more-reached Neither (readFrom (k b >>= λ a. done (plain op (f a))) l)) ∙ ap more (plain-reached (k b) op f l)
 
 -- by the reach of a row, where the row itself has none
-by-reach : (opcode : ℕ) (row : Row) (at : ℕ) (l : List ℕ) → reachedIn Neither (readFrom (rest opcode row) l) ≡ readFrom (rest opcode row) l
-    → (reach : Reach) → reachedAnswer reach (readBy opcode row at l) ≡ readBy opcode (withReach reach row) at l
-by-reach opcode row at l h Neither = answer-reached Neither at (readFrom (rest opcode row) l) ∙ ap (formRead at) h
-by-reach opcode row at l h Near = row-reached Near opcode row at l
-by-reach opcode row at l h Far = row-reached Far opcode row at l
+by-reach : (x : Reading) (opcode : ℕ) (row : Row) (at : ℕ) (l : List ℕ) → reachedIn Neither (readFrom (rest x opcode row) l) ≡ readFrom (rest x opcode row) l
+    → (reach : Reach) → reachedAnswer reach (readIn x opcode row at l) ≡ readIn x opcode (withReach reach row) at l
+by-reach x opcode row at l h Neither = answer-reached Neither at (readFrom (rest x opcode row) l) ∙ ap (formRead at) h
+by-reach x opcode row at l h Near = row-reached x Near opcode row at l
+by-reach x opcode row at l h Far = row-reached x Far opcode row at l
 
-module _ (op : Operation) (size : OperandSize) (opcode at : ℕ) (l : List ℕ) where
+module _ (x : Reading) (op : Operation) (size : OperandSize) (opcode at : ℕ) (l : List ℕ) where
   pub immediate-reached : (reach : Reach)
-      → reachedAnswer reach (readBy opcode (onImmediate op size) at l) ≡ readBy opcode (withReach reach (onImmediate op size)) at l
-  immediate-reached = by-reach opcode (onImmediate op size) at l (plain-reached (anImmediate size) op _ l)
+      → reachedAnswer reach (readIn x opcode (onImmediate op size) at l) ≡ readIn x opcode (withReach reach (onImmediate op size)) at l
+  immediate-reached = by-reach x opcode (onImmediate op size) at l (plain-reached (anImmediate size) op _ l)
 
   pub displacement-reached : (reach : Reach)
-      → reachedAnswer reach (readBy opcode (onDisplacement op size) at l) ≡ readBy opcode (withReach reach (onDisplacement op size)) at l
-  displacement-reached = by-reach opcode (onDisplacement op size) at l (plain-reached (aDisplacement size) op _ l)
+      → reachedAnswer reach (readIn x opcode (onDisplacement op size) at l) ≡ readIn x opcode (withReach reach (onDisplacement op size)) at l
+  displacement-reached = by-reach x opcode (onDisplacement op size) at l (plain-reached (aDisplacement size) op _ l)
 
-pub bare-reached : (op : Operation) (opcode at : ℕ) (l : List ℕ) (reach : Reach)
-    → reachedAnswer reach (readBy opcode (bare op) at l) ≡ readBy opcode (withReach reach (bare op)) at l
-bare-reached op opcode at l = by-reach opcode (bare op) at l refl
+pub bare-reached : (x : Reading) (op : Operation) (opcode at : ℕ) (l : List ℕ) (reach : Reach)
+    → reachedAnswer reach (readIn x opcode (bare op) at l) ≡ readIn x opcode (withReach reach (bare op)) at l
+bare-reached x op opcode at l = by-reach x opcode (bare op) at l refl

@@ -1,9 +1,10 @@
--- The form table's rule, over the whole table: its 256 numbers are the codes of the 256 rows, which antt computes; so each is the code of its row.
+-- The form table's rule, over the whole table: its 256 numbers are the codes of the 256 rows of reading 1, which antt computes; so each is the code of its row.
 -- Assumes nothing.
 use mathlib.Core.Path.{_≡_, refl, ap, _∙_}
 use mathlib.Core.List.{List, [], _∷_, map}
 use Prim.Native.Nat.{ℕ, zero, suc}
 use lib.ListN.{getD}
+use Rattle.mrc_instruction.specs.declared.reading.Reading.the-variants.{One}
 use Rattle.mrc_rules.specs.Forms.{Row, invalid}
 use Rattle.mrc_rules.specs.Table.{rows, rowOf}
 use Rattle.mrc_decoder.specs.Table.{codeOf}
@@ -43,7 +44,7 @@ numbers =
     0x02_5E_00 ∷ 0x02_50_00 ∷ 0x01_00_00 ∷ 0x01_00_00 ∷ 0x02_5B_00 ∷ 0x02_55_00 ∷ 0x1D_00_00 ∷ 0x1D_00_01 ∷
     0x02_54_00 ∷ 0x02_56_00 ∷ 0x02_59_00 ∷ 0x02_5A_00 ∷ 0x02_57_00 ∷ 0x02_58_00 ∷ 0x1E_00_00 ∷ 0x1E_00_01 ∷ []
 
-rows-are : numbers ≡ map codeOf rows
+rows-are : numbers ≡ map codeOf (rows One)
 unfolding numbers rows
 rows-are = refl
 
@@ -52,6 +53,6 @@ map-at [] k = refl
 map-at (r ∷ rs) zero = refl
 map-at (r ∷ rs) (suc k) = map-at rs k
 
-pub row-is : (opcode : ℕ) → getD numbers opcode 0 ≡ codeOf (rowOf opcode)
+pub row-is : (opcode : ℕ) → getD numbers opcode 0 ≡ codeOf (rowOf One opcode)
 unfolding rowOf
-row-is opcode = ap (λ (l : List ℕ). getD l opcode 0) rows-are ∙ map-at rows opcode
+row-is opcode = ap (λ (l : List ℕ). getD l opcode 0) rows-are ∙ map-at (rows One) opcode

@@ -3,15 +3,17 @@
 -- Both counts grow by one.
 use Prim.Native.Nat.{ℕ, _+_, _<_, _^_}
 use mathlib.Core.Bool.{cond}
-use lib.Dec.{eqb}
+use mathlib.Core.Option.{some}
+use lib.Dec.{eqb, ltb}
 use Rattle.mrc_instruction.specs.declared.errors.Refusal.{Refusal}
 use Rattle.mrc_instruction.specs.declared.errors.Refusal.the-variants.{EndOfInput, InvalidPrefix, TooManyPrefixes, OutsideInput}
 use Rattle.mrc_instruction.specs.Errors.{numberOf}
+use Rattle.mrc_instruction.specs.declared.reading.Reading.{Reading}
 use Rattle.mrc_instruction.specs.declared.instruction.Repeated.{Repeated}
 use Rattle.mrc_instruction.specs.declared.instruction.Instruction.{Instruction}
 use Rattle.mrc_rules.specs.declared.Answer.{Answer}
 use Rattle.mrc_rules.specs.Answer.{taken, prefixes}
-use Rattle.mrc_rules.specs.Prefixes.{Result, reads, refuses, made, under}
+use Rattle.mrc_rules.specs.Prefixes.{Result, reads, refuses, repeatOf, made, under}
 use Rattle.mrc_rules.specs.Decode.{answer}
 
 -- a refusal under an override: too many prefixes passes through; any other, an inner override's too, becomes InvalidPrefix with this override,
@@ -39,12 +41,16 @@ underOverrideBy over o d = wrapped (resultUnder over o) d
 abbrev pub withRepeat : Repeated → Answer → Answer
 withRepeat r d = wrapped (resultRepeated r) d
 
--- by the rules: the operands' segments are replaced, and a repeat stays
-abbrev pub overridden : ℕ → Instruction → Result
-overridden o i = under o (i .repeat) i (i .operands)
+-- by the rules: the operands' segments are replaced, or the override is kept, and a repeat stays
+abbrev pub overridden : Reading → ℕ → Instruction → Result
+overridden x o i = under x o (i .repeat) i (i .operands)
 
-abbrev pub underOverride : ℕ → Answer → Answer
-underOverride = underOverrideBy overridden
+abbrev pub underOverride : Reading → ℕ → Answer → Answer
+underOverride x = underOverrideBy (overridden x)
+
+-- a prefix of either kind: the repeats are the two greatest
+abbrev pub behindPrefix : Reading → ℕ → Answer → Answer
+behindPrefix x b d = cond (ltb b 0xF0) (underOverride x b d) (withRepeat (repeatOf (some b)) d)
 
 -- a prefix over the budget
 abbrev pub tooMany : ℕ → Answer

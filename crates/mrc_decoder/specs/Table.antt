@@ -5,7 +5,7 @@ use Rattle.mrc_instruction.specs.declared.operand.OperandSize.the-variants.{Wor
 use Rattle.mrc_instruction.specs.declared.operation.Operation.the-variants.{MOV, POP, XCHG, IN, OUT, ESC}
 use Rattle.mrc_instruction.specs.Operation.{operationNumber}
 use Rattle.mrc_instruction.specs.Operand.{sizeCode}
-use Rattle.mrc_rules.specs.Forms.{Row, _⦂_, invalid, prefix, bare, rmReg, regRm, immediateToAccumulator, onSegment, onRegister, onDisplacement, group80, group83, pop, rmSegment, segmentRm, exchange, far, accDirect, directAcc, registerAndImmediate, shiftByImmediate, shiftByOne, shiftByCl, onImmediate, groupC6, escape, inPort, outPort, inDx, outDx, groupF6, groupFE, reaching}
+use Rattle.mrc_rules.specs.Forms.{Row, _⦂_, invalid, prefix, bare, rmReg, regRm, immediateToAccumulator, onSegment, onRegister, onDisplacement, group80, group83, pop, rmSegment, segmentRm, exchange, far, accDirect, directAcc, registerAndImmediate, shiftByImmediate, shiftByOne, shiftByCl, onImmediate, groupC6, escape, inPort, outPort, inDx, outDx, groupF6, groupFE, escapeRm, reaching}
 
 -- two hex digits for each
 abbrev pub packed : ℕ → ℕ → ℕ → ℕ
@@ -44,4 +44,5 @@ codeOf (inDx size) = packed 27 (operationNumber IN) (sizeCode size)
 codeOf (outDx size) = packed 28 (operationNumber OUT) (sizeCode size)
 codeOf (groupF6 ⦂ size) = packed 29 0 (sizeCode size)
 codeOf (groupFE ⦂ size) = packed 30 0 (sizeCode size)
+codeOf (escapeRm ⦂ size) = packed 31 (operationNumber ESC) (sizeCode size)
 codeOf (reaching reach row) = codeOf row

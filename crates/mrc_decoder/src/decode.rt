@@ -3,8 +3,8 @@ use crate::form::Form;
 use crate::form::OpcodeAlone;
 use crate::form::WithModRM;
 use crate::form::form_of;
-use crate::prefixes::under_override;
-use crate::prefixes::with_repeat;
+use crate::prefixes::behind_prefix;
+use mrc_directed::common::Direction;
 use mrc_directed::common::immediate_to_accumulator;
 use mrc_directed::common::immediate_to_register_or_memory;
 use mrc_directed::common::register_or_memory_and_register;
@@ -18,17 +18,18 @@ use mrc_directed::ports::in_dx;
 use mrc_directed::ports::in_port;
 use mrc_directed::ports::out_dx;
 use mrc_directed::ports::out_port;
-use mrc_directed::shifts::shift_by_count;
+use mrc_directed::shifts::shift_by_cl;
 use mrc_directed::shifts::shift_by_immediate;
+use mrc_directed::shifts::shift_by_one;
 use mrc_forms::answers::reaching;
 use mrc_forms::forms::bare;
 use mrc_forms::forms::escape;
 use mrc_forms::forms::far;
-use mrc_forms::forms::group_fe;
 use mrc_forms::forms::invalid;
 use mrc_forms::forms::on_displacement;
 use mrc_forms::forms::on_immediate;
 use mrc_forms::forms::on_register;
+use mrc_forms::forms::on_register_or_memory;
 use mrc_forms::forms::on_segment;
 use mrc_forms::forms::pop;
 use mrc_instruction::errors::Refusal;
@@ -37,6 +38,7 @@ use mrc_instruction::mrrm::OperandRead;
 use mrc_instruction::mrrm::read_operand;
 use mrc_instruction::operand::OperandSize;
 use mrc_instruction::operation::Operation;
+use mrc_instruction::reading::Reading;
 use mrc_rules::Answer;
 ghost use mathlib.Core.Path.{_≡_};
 ghost use mathlib.Core.List.{[]};
@@ -44,7 +46,7 @@ ghost use Prim.Native.Nat.{_≤_};
 ghost use lib.ListN.{drop};
 ghost use Rattle.mrc_rules.specs.Forms.{_⦂_};
 ghost use Rattle.mrc_rules.specs.Decode.{decodeAt};
-ghost use Rattle.mrc_forms.specs.Answers.{readBy};
+ghost use Rattle.mrc_forms.specs.Answers.{readBy, readIn};
 ghost use Rattle.mrc_decoder.specs.Form.{aloneRow, modRMForm};
 ghost use Rattle.mrc_rules.specs.Answer.{taken};
 ghost use Rattle.mrc_decoder.specs.Decode.{countedFrom};
@@ -65,34 +67,59 @@ fn opcode_alone(form: OpcodeAlone, opcode: u8, at: usize) -> Answer
 }
 
 // A form with a ModRM, from the position behind the opcode on: the operand of a size that the ModRM names, and what follows.
-fn with_modrm(form: WithModRM, size: OperandSize, opcode: u8, s: &[u8], at: usize) -> Answer
-    ensures { λ r. ⌜ r ≡ readBy opcode (modRMForm form opcode ⦂ size) at (drop at (now (s .entry))) ⌝ }
+fn with_modrm(form: WithModRM, size: OperandSize, s: &[u8], at: usize, reading: Reading) -> Answer
+    ensures { λ r. ⌜ r ≡ readIn reading 0 (modRMForm form ⦂ size) at (drop at (now (s .entry))) ⌝ }
 {
-    match read_operand(size, s, at) {
+    match read_operand(size, s, at, reading) {
         OperandRead::Got(operand, next, byte) => match form {
             WithModRM::Pop => return pop(operand, byte, next),
-            WithModRM::GroupFE => return group_fe(size, operand, byte, next),
+            WithModRM::OnRegisterOrMemory(group) => return on_register_or_memory(
+                group,
+                size,
+                operand,
+                byte,
+                next,
+            ),
             WithModRM::GroupF6 => return group_f6(size, operand, byte, s, next),
-            WithModRM::RegisterOrMemoryAndRegister(operation, direction) => {
+            WithModRM::RmReg(operation) => {
                 return register_or_memory_and_register(
                     operation,
-                    direction,
+                    Direction::RegMemFirst, // rm,reg
                     size,
-                    opcode,
                     operand,
                     byte,
                     next,
                 );
             }
-            WithModRM::RegisterOrMemoryAndSegment => {
-                return register_or_memory_and_segment(opcode, operand, byte, next);
+            WithModRM::RegRm(operation) => {
+                return register_or_memory_and_register(
+                    operation,
+                    Direction::RegFirst, // reg,rm
+                    size,
+                    operand,
+                    byte,
+                    next,
+                );
             }
+            WithModRM::RmSegment => return register_or_memory_and_segment(
+                Direction::RegMemFirst, // rm,segment
+                operand,
+                byte,
+                next,
+            ),
+            WithModRM::SegmentRm => return register_or_memory_and_segment(
+                Direction::RegFirst, // segment,rm
+                operand,
+                byte,
+                next,
+            ),
             WithModRM::ImmediateToRegisterOrMemory(group) => {
                 return immediate_to_register_or_memory(group, size, operand, byte, s, next);
             }
-            WithModRM::Group83 => return group_83(operand, byte, s, next),
+            WithModRM::Group83 => return group_83(operand, byte, s, next, reading),
             WithModRM::ShiftByImmediate => return shift_by_immediate(operand, byte, s, next),
-            WithModRM::ShiftByCount => return shift_by_count(opcode, size, operand, byte, next),
+            WithModRM::ShiftByOne => return shift_by_one(operand, byte, next),
+            WithModRM::ShiftByCl => return shift_by_cl(size, operand, byte, next, reading),
         },
         OperandRead::Refused(e, end) => return Answer::Refused {
             refusal: e,
@@ -163,25 +190,29 @@ fn past(len: usize, at: usize) -> Answer
 }
 
 // The instruction at a position, or why there is none. Each prefix byte lowers the budget by one, and wraps what the bytes behind it come to.
-pub fn decode_instruction(s: &[u8], at: usize, budget: u8) -> Answer
-    ensures { λ r. ⌜ r ≡ decodeAt (now (s .entry)) at budget ⌝ }
+pub fn decode_instruction(s: &[u8], at: usize, budget: u8, reading: Reading) -> Answer
+    ensures { λ r. ⌜ r ≡ decodeAt reading (now (s .entry)) at budget ⌝ }
 {
     if s.len() <= at {
         return past(s.len(), at);
     }
     let byte = s[at];
-    match form_of(byte) {
+    match form_of(byte, reading) {
         Form::Override => {
             if budget == 0 {
                 return too_many(byte);
             }
-            return under_override(byte, decode_instruction(&s[..], at + 1, budget - 1));
+            let overridden = decode_instruction(&s[..], at + 1, budget - 1, reading);
+            let answer = behind_prefix(byte, overridden, reading);
+            return answer;
         }
         Form::Repeat => {
             if budget == 0 {
                 return too_many(byte);
             }
-            return with_repeat(byte, decode_instruction(&s[..], at + 1, budget - 1));
+            let repeated = decode_instruction(&s[..], at + 1, budget - 1, reading);
+            let answer = behind_prefix(byte, repeated, reading);
+            return answer;
         }
         Form::Invalid => return answered(at, invalid(byte, at + 1)),
         Form::OnRegister(operation) => return answered(at, on_register(operation, byte, at + 1)),
@@ -210,7 +241,7 @@ pub fn decode_instruction(s: &[u8], at: usize, budget: u8) -> Answer
         }
         Form::OpcodeAlone(form) => return answered(at, opcode_alone(form, byte, at + 1)),
         Form::WithModRM(form, size) => {
-            return answered(at, with_modrm(form, size, byte, s, at + 1));
+            return answered(at, with_modrm(form, size, s, at + 1, reading));
         }
     }
 }

@@ -4,13 +4,15 @@ use mrc_instruction::instruction::OperandSet;
 use mrc_instruction::instruction::Repeat;
 use mrc_instruction::instruction::Repeated;
 use mrc_instruction::operand::Operand;
+use mrc_instruction::operation::Operation;
+use mrc_instruction::reading::Reading;
 use mrc_instruction::register::Segment;
 use mrc_rules::Answer;
 ghost use mathlib.Core.Path.{_≡_};
 ghost use mathlib.Core.Option.{some};
 ghost use Rattle.mrc_instruction.specs.declared.instruction.Repeated.{Repeated};
-ghost use Rattle.mrc_rules.specs.Prefixes.{inSegment, repeatOf};
-ghost use Rattle.mrc_decoder.specs.Prefixes.{refusalUnder, underOverride, withRepeat, Small};
+ghost use Rattle.mrc_rules.specs.Prefixes.{inSegment, repeatOf, keeps as keepsIn};
+ghost use Rattle.mrc_decoder.specs.Prefixes.{refusalUnder, underOverride, withRepeat, behindPrefix, Small};
 
 // The operand in another segment, where it is Direct or Indirect.
 pub fn override_segment(operand: Operand, segment: Segment) -> Operand
@@ -43,10 +45,29 @@ fn refusal_under(prefix: u8, refusal: Refusal) -> Refusal
     }
 }
 
-// The inner answer under an override: each operand in its segment, and refused where there is none.
-pub fn under_override(prefix: u8, inner: Answer) -> Answer
+// Whether an operation keeps an override: in reading 2 those that read memory which no operand names, which are told by their numbers.
+fn keeps(operation: Operation, reading: Reading) -> bool
+    ensures { λ r. ⌜ r ≡ keepsIn reading operation ⌝ }
+{
+    match reading {
+        Reading::One => false,
+        Reading::Two => match operation.number() {
+            6 => true, // XLATB
+            46 => true, // MOVSB
+            47 => true, // MOVSW
+            48 => true, // CMPSB
+            49 => true, // CMPSW
+            52 => true, // LODSB
+            53 => true, // LODSW
+            _ => false,
+        },
+    }
+}
+
+// The inner answer under an override: each operand in its segment; where there is none the override is kept, or refused.
+fn under_override(prefix: u8, inner: Answer, reading: Reading) -> Answer
     requires { ⌜ Small inner ⌝ }
-    ensures { λ r. ⌜ r ≡ underOverride prefix inner ⌝ }
+    ensures { λ r. ⌜ r ≡ underOverride reading prefix inner ⌝ }
 {
     let segment = Segment::from_low_bits(prefix / 8);
     match inner {
@@ -57,11 +78,21 @@ pub fn under_override(prefix: u8, inner: Answer) -> Answer
         } => {
             let operands = instruction.operands;
             match operands {
-                OperandSet::None => Answer::Refused {
-                    refusal: Refusal::InvalidPrefix(prefix),
-                    taken: taken + 1,
-                    prefixes: prefixes + 1,
-                },
+                OperandSet::None => {
+                    let operation = instruction.operation;
+                    if keeps(operation, reading) {
+                        return Answer::Decoded {
+                            instruction: instruction.keeping(segment),
+                            taken: taken + 1,
+                            prefixes: prefixes + 1,
+                        };
+                    }
+                    return Answer::Refused {
+                        refusal: Refusal::InvalidPrefix(prefix),
+                        taken: taken + 1,
+                        prefixes: prefixes + 1,
+                    };
+                }
                 OperandSet::Destination(destination) => {
                     let operands = OperandSet::Destination(override_segment(destination, segment));
                     Answer::Decoded {
@@ -107,7 +138,7 @@ fn repeat_of(prefix: u8) -> Repeat
 }
 
 // The inner answer under a repeat, which replaces a later one.
-pub fn with_repeat(prefix: u8, inner: Answer) -> Answer
+fn with_repeat(prefix: u8, inner: Answer) -> Answer
     requires { ⌜ Small inner ⌝ }
     ensures { λ r. ⌜ r ≡ withRepeat (repeatOf (some prefix)) inner ⌝ }
 {
@@ -132,4 +163,16 @@ pub fn with_repeat(prefix: u8, inner: Answer) -> Answer
             prefixes: prefixes + 1,
         },
     }
+}
+
+// The inner answer behind a prefix of either kind. It has two callers and so is not built into them: what it keeps of the inner answer costs a step
+// that has no prefix nothing.
+pub fn behind_prefix(prefix: u8, inner: Answer, reading: Reading) -> Answer
+    requires { ⌜ Small inner ⌝ }
+    ensures { λ r. ⌜ r ≡ behindPrefix reading prefix inner ⌝ }
+{
+    if prefix < 0xF0 {
+        return under_override(prefix, inner, reading);
+    }
+    return with_repeat(prefix, inner);
 }

@@ -4,6 +4,7 @@
 use Prim.Native.Nat.{ℕ}
 use mathlib.Core.Path.{_≡_, refl}
 use mathlib.Core.List.{List}
+use Rattle.mrc_instruction.specs.declared.reading.Reading.{Reading}
 use Rattle.mrc_instruction.specs.declared.operand.Operand.{Operand}
 use Rattle.mrc_instruction.specs.declared.operand.OperandSize.{OperandSize}
 use Rattle.mrc_instruction.specs.declared.operation.Operation.{Operation}
@@ -14,26 +15,28 @@ use Rattle.mrc_directed.specs.Common.{registerOrMemoryAndRegister}
 use Rattle.mrc_directed.specs.Order.{exchangedIn}
 use Rattle.mrc_directed.proofs.Order.{mirrored, mirrored-behind, segment-mirrored}
 
--- the register or memory and the register, with d and without it
-pub register-order : (opcode : ℕ) (op : Operation) (size : OperandSize) (l : List ℕ)
-    → readFrom (rest opcode (regRm op ⦂ size)) l ≡ exchangedIn (readFrom (rest opcode (rmReg op ⦂ size)) l)
-register-order opcode op size = mirrored-behind (rmReg op) (regRm op) size (λ operand byte l. refl) opcode
+module _ (x : Reading) where
+  -- the register or memory and the register, in either direction
+  pub register-order : (opcode : ℕ) (op : Operation) (size : OperandSize) (l : List ℕ)
+      → readFrom (rest x opcode (regRm op ⦂ size)) l ≡ exchangedIn (readFrom (rest x opcode (rmReg op ⦂ size)) l)
+  register-order opcode op size = mirrored-behind x (rmReg op) (regRm op) size (λ operand byte l. refl) opcode
 
--- the same behind the ModRM
-pub register-turned : (opcode : ℕ) (op : Operation) (size : OperandSize) (operand : Operand) (byte : ℕ) (l : List ℕ)
-    → readFrom (behind (registerOrMemoryAndRegister RegFirst opcode op) size operand byte) l
-    ≡ exchangedIn (readFrom (behind (registerOrMemoryAndRegister RegMemFirst opcode op) size operand byte) l)
-register-turned opcode op size operand byte l = refl
+  -- the same behind the ModRM
+  pub register-turned : (op : Operation) (size : OperandSize) (operand : Operand) (byte : ℕ) (l : List ℕ)
+      → readFrom (behind x (registerOrMemoryAndRegister RegFirst op) size operand byte) l
+      ≡ exchangedIn (readFrom (behind x (registerOrMemoryAndRegister RegMemFirst op) size operand byte) l)
+  register-turned op size operand byte l = refl
 
--- 8E and 8C, and the same behind the ModRM
-pub segment-order : (opcode : ℕ) (size : OperandSize) (l : List ℕ)
-    → readFrom (rest opcode (segmentRm ⦂ size)) l ≡ exchangedIn (readFrom (rest opcode (rmSegment ⦂ size)) l)
-segment-order opcode size = mirrored-behind rmSegment segmentRm size (segment-mirrored size) opcode
+  -- 8E and 8C, and the same behind the ModRM
+  pub segment-order : (opcode : ℕ) (size : OperandSize) (l : List ℕ)
+      → readFrom (rest x opcode (segmentRm ⦂ size)) l ≡ exchangedIn (readFrom (rest x opcode (rmSegment ⦂ size)) l)
+  segment-order opcode size = mirrored-behind x rmSegment segmentRm size (segment-mirrored x size) opcode
 
-pub segment-turned : (size : OperandSize) (operand : Operand) (byte : ℕ) (l : List ℕ)
-    → readFrom (behind segmentRm size operand byte) l ≡ exchangedIn (readFrom (behind rmSegment size operand byte) l)
-segment-turned = segment-mirrored
+  pub segment-turned : (size : OperandSize) (operand : Operand) (byte : ℕ) (l : List ℕ)
+      → readFrom (behind x segmentRm size operand byte) l ≡ exchangedIn (readFrom (behind x rmSegment size operand byte) l)
+  segment-turned = segment-mirrored x
 
--- A2 and A3, and A0 and A1
-pub direct-order : (opcode : ℕ) (size : OperandSize) (l : List ℕ) → readFrom (rest opcode (directAcc size)) l ≡ exchangedIn (readFrom (rest opcode (accDirect size)) l)
-direct-order opcode size = mirrored aWord _ _ (λ w l. refl)
+  -- A2 and A3, and A0 and A1
+  pub direct-order : (opcode : ℕ) (size : OperandSize) (l : List ℕ)
+      → readFrom (rest x opcode (directAcc size)) l ≡ exchangedIn (readFrom (rest x opcode (accDirect size)) l)
+  direct-order opcode size = mirrored aWord _ _ (λ w l. refl)

@@ -7,6 +7,7 @@ use mathlib.Core.Bool.{Bool, true, false, cond}
 use mathlib.Core.List.{List, [], _∷_}
 use lib.Dec.{ltb}
 use Rattle.mrc_instruction.specs.declared.errors.Refusal.{Refusal}
+use Rattle.mrc_instruction.specs.declared.reading.Reading.{Reading}
 use Rattle.mrc_instruction.specs.declared.operand.Operand.{Operand}
 use Rattle.mrc_instruction.specs.declared.operand.OperandSize.{OperandSize}
 use Rattle.mrc_instruction.specs.Reader.{Reader, done, refuse, next, Outcome, got, stopped, more, readFrom, _>>=_}
@@ -26,11 +27,11 @@ mirrored (next k) f g h [] = refl
 mirrored (next k) f g h (b ∷ l) = ap more (mirrored (k b) f g h l) ∙ more-exchanged (readFrom (k b >>= f) l)
 
 -- the same of two forms with a ModRM, by what is read behind it
-pub mirrored-behind : (f g : ModRMForm) (size : OperandSize)
-    → ((operand : Operand) (byte : ℕ) (l : List ℕ) → readFrom (behind g size operand byte) l ≡ exchangedIn (readFrom (behind f size operand byte) l))
-    → (opcode : ℕ) (l : List ℕ) → readFrom (rest opcode (g ⦂ size)) l ≡ exchangedIn (readFrom (rest opcode (f ⦂ size)) l)
+pub mirrored-behind : (x : Reading) (f g : ModRMForm) (size : OperandSize)
+    → ((operand : Operand) (byte : ℕ) (l : List ℕ) → readFrom (behind x g size operand byte) l ≡ exchangedIn (readFrom (behind x f size operand byte) l))
+    → (opcode : ℕ) (l : List ℕ) → readFrom (rest x opcode (g ⦂ size)) l ≡ exchangedIn (readFrom (rest x opcode (f ⦂ size)) l)
 unfolding withModRM
-mirrored-behind f g size h opcode = mirrored aModRM _ _ (λ m. h (rm m size) (m .byte))
+mirrored-behind x f g size h opcode = mirrored aModRM _ _ (λ m. h (rm x m size) (m .byte))
 
 -- 8E and 8C: both refuse, or neither
 tested : (t : Bool) (i : Tail) (e : Refusal) (l : List ℕ)
@@ -38,6 +39,6 @@ tested : (t : Bool) (i : Tail) (e : Refusal) (l : List ℕ)
 tested true i e l = refl
 tested false i e l = refl
 
-pub segment-mirrored : (size : OperandSize) (operand : Operand) (byte : ℕ) (l : List ℕ)
-    → readFrom (behind segmentRm size operand byte) l ≡ exchangedIn (readFrom (behind rmSegment size operand byte) l)
-segment-mirrored size operand byte = tested (ltb (regField byte) 4) _ (Refusal.InvalidSegmentEncoding (regField byte))
+pub segment-mirrored : (x : Reading) (size : OperandSize) (operand : Operand) (byte : ℕ) (l : List ℕ)
+    → readFrom (behind x segmentRm size operand byte) l ≡ exchangedIn (readFrom (behind x rmSegment size operand byte) l)
+segment-mirrored x size operand byte = tested (ltb (regField byte) 4) _ (Refusal.InvalidSegmentEncoding (regField byte))

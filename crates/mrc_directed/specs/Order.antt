@@ -9,7 +9,7 @@ turned (OperandSet.Destination destination) = OperandSet.Destination destination
 turned (OperandSet.DestinationAndSource destination source) = OperandSet.DestinationAndSource source destination
 
 abbrev pub exchanged : Tail → Tail
-exchanged i = record { reach = i .reach; repeat = i .repeat; operation = i .operation; operands = turned (i .operands) }
+exchanged i = record { reach = i .reach; repeat = i .repeat; operation = i .operation; operands = turned (i .operands); kept = i .kept }
 
 abbrev pub exchangedIn : Outcome Tail → Outcome Tail
 exchangedIn (got i n) = got (exchanged i) n

@@ -3,7 +3,6 @@
 use mrc_forms::answers::decoded;
 use mrc_forms::groups::immediate_operation;
 use mrc_forms::traits::ImmediateRead;
-use mrc_forms::traits::d_bit;
 use mrc_forms::traits::read_immediate;
 use mrc_instruction::instruction::OperandSet;
 use mrc_instruction::mrrm::reg_field;
@@ -22,23 +21,12 @@ ghost use Rattle.mrc_instruction.specs.declared.operand.OperandSize.{OperandSiz
 ghost use Rattle.mrc_rules.specs.Forms.{immediateToAccumulator};
 ghost use Rattle.mrc_forms.specs.Answers.{readBy, readBehind};
 ghost use Rattle.mrc_instruction.specs.Operand.{sizeBy};
-ghost use Rattle.mrc_directed.specs.Common.{regFirst, registerOrMemoryAndRegister, registerOrMemoryAndSegment, immediateToRegisterOrMemory};
+ghost use Rattle.mrc_directed.specs.Common.{registerOrMemoryAndRegister, registerOrMemoryAndSegment, immediateToRegisterOrMemory};
 
-// Which operand is the destination: the one that d says, the register, or the register or memory.
+// Which operand is the destination: the register or segment that reg names, or the register or memory.
 pub enum Direction {
-    Detect,
     RegFirst,
     RegMemFirst,
-}
-
-fn reg_first(direction: Direction, opcode: u8) -> bool
-    ensures { λ r. ⌜ r ≡ regFirst direction opcode ⌝ }
-{
-    match direction {
-        Direction::Detect => d_bit(opcode),
-        Direction::RegFirst => true,
-        Direction::RegMemFirst => false,
-    }
 }
 
 // x x x x x x d w | mod reg r/m
@@ -46,36 +34,48 @@ pub fn register_or_memory_and_register(
     operation: Operation,
     direction: Direction,
     size: OperandSize,
-    opcode: u8,
     reg_mem: Operand,
     byte: u8,
     at: usize,
 ) -> Answer
-    ensures { λ r. ⌜ r ≡ readBehind (registerOrMemoryAndRegister direction opcode operation) size «reg_mem» byte at [] ⌝ }
+    ensures { λ r. ⌜ r ≡ readBehind (registerOrMemoryAndRegister direction operation) size «reg_mem» byte at [] ⌝ }
 {
     let register = RegisterEncoding::from_low_bits(byte / 8);
     let reg = Operand::Register(SizedRegisterEncoding(register, size));
-    if reg_first(direction, opcode) {
-        let operands = OperandSet::DestinationAndSource(reg, reg_mem);
-        return decoded(operation, operands, at);
+    match direction {
+        Direction::RegFirst => {
+            let operands = OperandSet::DestinationAndSource(reg, reg_mem);
+            return decoded(operation, operands, at);
+        }
+        Direction::RegMemFirst => {
+            let operands = OperandSet::DestinationAndSource(reg_mem, reg);
+            return decoded(operation, operands, at);
+        }
     }
-    let operands = OperandSet::DestinationAndSource(reg_mem, reg);
-    return decoded(operation, operands, at);
 }
 
 // 1 0 0 0 1 1 d 0 | mod reg r/m
-pub fn register_or_memory_and_segment(opcode: u8, reg_mem: Operand, byte: u8, at: usize) -> Answer
-    ensures { λ r. ⌜ r ≡ readBehind (registerOrMemoryAndSegment opcode) OperandSize.Word «reg_mem» byte at [] ⌝ }
+pub fn register_or_memory_and_segment(
+    direction: Direction,
+    reg_mem: Operand,
+    byte: u8,
+    at: usize,
+) -> Answer
+    ensures { λ r. ⌜ r ≡ readBehind (registerOrMemoryAndSegment direction) OperandSize.Word «reg_mem» byte at [] ⌝ }
 {
     match Segment::try_from_encoding(reg_field(byte)) {
         SegmentField::Found(segment) => {
             let seg = Operand::Segment(segment);
-            if d_bit(opcode) {
-                let operands = OperandSet::DestinationAndSource(seg, reg_mem);
-                return decoded(Operation::MOV, operands, at);
+            match direction {
+                Direction::RegFirst => {
+                    let operands = OperandSet::DestinationAndSource(seg, reg_mem);
+                    return decoded(Operation::MOV, operands, at);
+                }
+                Direction::RegMemFirst => {
+                    let operands = OperandSet::DestinationAndSource(reg_mem, seg);
+                    return decoded(Operation::MOV, operands, at);
+                }
             }
-            let operands = OperandSet::DestinationAndSource(reg_mem, seg);
-            return decoded(Operation::MOV, operands, at);
         }
         SegmentField::Refused(e) => return Answer::Refused {
             refusal: e,

@@ -13,26 +13,37 @@ use mrc_instruction::operand::OperandSize;
 use mrc_instruction::operation::Operation;
 use mrc_instruction::read::ByteRead;
 use mrc_instruction::read::read_u8;
+use mrc_instruction::reading::Reading;
 use mrc_rules::Answer;
 ghost use mathlib.Core.Path.{_≡_};
 ghost use lib.ListN.{drop};
 ghost use Rattle.mrc_instruction.specs.declared.operand.OperandSize.{OperandSize};
-ghost use Rattle.mrc_rules.specs.Forms.{group83, groupF6};
-ghost use Rattle.mrc_forms.specs.Answers.{readBehind};
+ghost use Rattle.mrc_rules.specs.Forms.{group83, groupF6, widened as widenedIn};
+ghost use Rattle.mrc_forms.specs.Answers.{readBehind, readBehindIn};
 
-fn widened(byte: u8) -> u16
-    ensures { λ r. ⌜ r ≡ byte ⌝ }
+// The word of a byte: widened with zeros, and in reading 2 by its sign.
+fn widened(byte: u8, reading: Reading) -> u16
+    ensures { λ r. ⌜ r ≡ widenedIn reading byte ⌝ }
 {
-    byte as u16
+    match reading {
+        Reading::One => byte as u16,
+        Reading::Two => {
+            if byte < 128 {
+                byte as u16
+            } else {
+                byte as u16 + 0xFF00
+            }
+        }
+    }
 }
 
-// 83: a word register or memory, and one byte widened with zeros.
-pub fn group_83(destination: Operand, byte: u8, s: &[u8], at: usize) -> Answer
-    ensures { λ r. ⌜ r ≡ readBehind group83 OperandSize.Word destination byte at (drop at (now (s .entry))) ⌝ }
+// 83: a word register or memory, and one byte widened.
+pub fn group_83(destination: Operand, byte: u8, s: &[u8], at: usize, reading: Reading) -> Answer
+    ensures { λ r. ⌜ r ≡ readBehindIn reading group83 OperandSize.Word destination byte at (drop at (now (s .entry))) ⌝ }
 {
     match read_u8(s, at) {
         ByteRead::Got(immediate, n) => {
-            let word = Operand::Immediate(Immediate::Word(widened(immediate)));
+            let word = Operand::Immediate(Immediate::Word(widened(immediate, reading)));
             let operation = group80_operation(reg_field(byte));
             let operands = OperandSet::DestinationAndSource(destination, word);
             return decoded(operation, operands, at + n);

@@ -3,6 +3,8 @@
 -- that. It has no prefix, and counts its bytes from the front of the slice: they end at the position that it says to have taken.
 use Prim.Native.Nat.{ℕ, _+_, _-_}
 use mathlib.Core.List.{List}
+use Rattle.mrc_instruction.specs.declared.reading.Reading.{Reading}
+use Rattle.mrc_instruction.specs.declared.reading.Reading.the-variants.{One}
 use Rattle.mrc_instruction.specs.declared.operand.Operand.{Operand}
 use Rattle.mrc_instruction.specs.declared.operand.OperandSize.{OperandSize}
 use Rattle.mrc_instruction.specs.declared.instruction.Repeated.{Repeated}
@@ -21,12 +23,19 @@ abbrev pub formRead : ℕ → Outcome Tail → Answer
 formRead at = answered (λ i n. Answer.Decoded (made i Repeated.None (i .operands)) (at + n) 0) (λ e n. Answer.Refused e (at + n) 0)
 
 -- behind the opcode
-abbrev pub readBy : ℕ → Row → ℕ → List ℕ → Answer
-readBy opcode row at l = formRead at (readFrom (rest opcode row) l)
+abbrev pub readIn : Reading → ℕ → Row → ℕ → List ℕ → Answer
+readIn x opcode row at l = formRead at (readFrom (rest x opcode row) l)
 
 -- behind a ModRM, by the operand of a size that its mod and rm name and by its byte
+abbrev pub readBehindIn : Reading → ModRMForm → OperandSize → Operand → ℕ → ℕ → List ℕ → Answer
+readBehindIn x form size operand byte at l = formRead at (readFrom (behind x form size operand byte) l)
+
+-- the same, of a row and of a form that both readings read alike
+abbrev pub readBy : ℕ → Row → ℕ → List ℕ → Answer
+readBy = readIn One
+
 abbrev pub readBehind : ModRMForm → OperandSize → Operand → ℕ → ℕ → List ℕ → Answer
-readBehind form size operand byte at l = formRead at (readFrom (behind form size operand byte) l)
+readBehind = readBehindIn One
 
 -- the same answer, with how far its instruction goes
 abbrev pub reachedAnswer : Reach → Answer → Answer

@@ -1,8 +1,8 @@
 // The forms with no operand or one. Each takes the position behind the opcode, or behind its ModRM.
 use crate::answers::decoded;
 use crate::answers::reaching;
-use crate::groups::group_fe_operation;
-use crate::groups::group_fe_reach;
+use crate::groups::sole_operation;
+use crate::groups::sole_reach;
 use crate::traits::DisplacementRead;
 use crate::traits::ImmediateRead;
 use crate::traits::read_displacement;
@@ -27,9 +27,10 @@ ghost use mathlib.Core.List.{[]};
 ghost use Prim.Native.Nat.{_/_, _%_};
 ghost use lib.ListN.{drop};
 ghost use Rattle.mrc_instruction.specs.Register.{registerOf, segmentOf};
-ghost use Rattle.mrc_rules.specs.Forms.{invalid as invalidRow, bare, onSegment, onRegister, onImmediate, onDisplacement, far as farRow, escape as escapeRow, pop as popForm, groupFE};
+ghost use Rattle.mrc_rules.specs.Forms.{invalid as invalidRow, bare, onSegment, onRegister, onImmediate, onDisplacement, far as farRow, escape as escapeRow, pop as popForm};
 ghost use Rattle.mrc_instruction.specs.declared.operand.OperandSize.{OperandSize};
 ghost use Rattle.mrc_forms.specs.Answers.{readBy, readBehind};
+ghost use Rattle.mrc_forms.specs.Groups.{onRegisterOrMemory};
 
 // No instruction has this opcode.
 pub fn invalid(opcode: u8, at: usize) -> Answer
@@ -129,7 +130,7 @@ pub fn far(operation: Operation, s: &[u8], at: usize) -> Answer
     }
 }
 
-// D8 to DF: one further byte is taken.
+// D8 to DF of which one further byte is taken.
 pub fn escape(s: &[u8], at: usize) -> Answer
     ensures { λ r. ⌜ r ≡ readBy 0 escapeRow at (drop at (now (s .entry))) ⌝ }
 {
@@ -159,12 +160,18 @@ pub fn pop(destination: Operand, byte: u8, at: usize) -> Answer
     return decoded(Operation::POP, operands, at);
 }
 
-// FE and FF, by reg: INC, DEC, CALL, JMP and PUSH of the register or memory.
-pub fn group_fe(size: OperandSize, destination: Operand, byte: u8, at: usize) -> Answer
-    ensures { λ r. ⌜ r ≡ readBehind groupFE size destination byte at [] ⌝ }
+// An operation on the register or memory alone, by the number that names its group and by reg: of FE and FF, and ESC.
+pub fn on_register_or_memory(
+    group: u8,
+    size: OperandSize,
+    destination: Operand,
+    byte: u8,
+    at: usize,
+) -> Answer
+    ensures { λ r. ⌜ r ≡ readBehind (onRegisterOrMemory group) size destination byte at [] ⌝ }
 {
-    let operation = group_fe_operation(reg_field(byte));
-    let reach = group_fe_reach(size, reg_field(byte));
+    let operation = sole_operation(group, reg_field(byte));
+    let reach = sole_reach(group, size, reg_field(byte));
     let operands = OperandSet::Destination(destination);
     return reaching(reach, decoded(operation, operands, at));
 }

@@ -1,23 +1,19 @@
-// The operations of a group, and how far they go: by reg, or by bits of the opcode.
+// The operations of a group, and how far they go, by reg.
 use mrc_instruction::instruction::Reach;
 use mrc_instruction::operand::OperandSize;
 use mrc_instruction::operation::Operation;
 ghost use mathlib.Core.Path.{_≡_};
-ghost use Prim.Native.Nat.{_/_, _%_};
 ghost use Rattle.mrc_rules.specs.Forms.{arithmetic, shift, groupFEOperation, groupFEReach, groupF6Operation};
-ghost use Rattle.mrc_forms.specs.Groups.{jumpOf, immediateOperation};
+ghost use Rattle.mrc_forms.specs.Groups.{immediateOperation, soleOperation, soleReach};
 
 // 80 to 83, by reg.
 pub const GROUP_80: u8 = 0x80;
 // C6 and C7: MOV, whatever reg is.
 pub const GROUP_C6: u8 = 0xC6;
-
-// The operation of 00 to 3F, by bits 5 to 3 of the opcode.
-pub fn group1_operation(opcode: u8) -> Operation
-    ensures { λ r. ⌜ r ≡ arithmetic (opcode / 8 % 8) ⌝ }
-{
-    group80_operation(opcode / 8 % 8)
-}
+// FE and FF, by reg.
+pub const GROUP_FE: u8 = 0xFE;
+// D8 to DF of a whole ModRM: ESC, whatever reg is.
+pub const GROUP_ESC: u8 = 0xD8;
 
 // The shifts, by reg.
 pub fn group2_operation(bits: u8) -> Operation
@@ -120,26 +116,24 @@ pub fn group_fe_reach(size: OperandSize, bits: u8) -> Reach
     }
 }
 
-// 70 to 7F, by the low four bits of the opcode.
-pub fn jump_operation(bits: u8) -> Operation
-    ensures { λ r. ⌜ r ≡ jumpOf bits ⌝ }
+// The operation on a register or memory alone, by the number that names its group and by reg.
+pub fn sole_operation(group: u8, bits: u8) -> Operation
+    ensures { λ r. ⌜ r ≡ soleOperation group bits ⌝ }
 {
-    match bits {
-        0 => Operation::JO,
-        1 => Operation::JNO,
-        2 => Operation::JB,
-        3 => Operation::JNB,
-        4 => Operation::JE,
-        5 => Operation::JNE,
-        6 => Operation::JBE,
-        7 => Operation::JNBE,
-        8 => Operation::JS,
-        9 => Operation::JNS,
-        10 => Operation::JP,
-        11 => Operation::JNP,
-        12 => Operation::JL,
-        13 => Operation::JNL,
-        14 => Operation::JLE,
-        _ => Operation::JNLE,
+    if group == GROUP_FE {
+        group_fe_operation(bits)
+    } else {
+        Operation::ESC
+    }
+}
+
+// How far it goes.
+pub fn sole_reach(group: u8, size: OperandSize, bits: u8) -> Reach
+    ensures { λ r. ⌜ r ≡ soleReach group size bits ⌝ }
+{
+    if group == GROUP_FE {
+        group_fe_reach(size, bits)
+    } else {
+        Reach::Neither
     }
 }

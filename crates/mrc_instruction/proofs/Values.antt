@@ -14,6 +14,7 @@ use Rattle.mrc_instruction.specs.declared.errors.Refusal.{Refusal}
 use Rattle.mrc_instruction.specs.declared.register.RegisterField.{RegisterField}
 use Rattle.mrc_instruction.specs.declared.register.SegmentField.{SegmentField}
 use Rattle.mrc_instruction.specs.declared.operand.AddressingField.{AddressingField}
+use Rattle.mrc_instruction.specs.declared.reading.Reading.{Reading}
 use Rattle.mrc_instruction.specs.declared.operand.OperandSize.{OperandSize}
 use Rattle.mrc_instruction.specs.declared.read.ByteRead.{ByteRead}
 use Rattle.mrc_instruction.specs.declared.read.WordRead.{WordRead}
@@ -100,7 +101,7 @@ mrrm-at s at e = record {
 pub back : (at n : ℕ) → at + n - at ≡ n
 back at n = omega arith
 
-pub operand : (size : OperandSize) (at : ℕ) (l : List ℕ) → OfReader (length l) (operandValues at (operandRead size at (readFrom aModRM l)))
-operand size at l =
-    answer-says (λ m n. OperandRead.Got (operandOf size (m .mrrm .«register_or_memory»)) (at + n) (m .byte)) (λ e n. OperandRead.Refused e (at + n)) (operandValues at)
+pub operand : (x : Reading) (size : OperandSize) (at : ℕ) (l : List ℕ) → OfReader (length l) (operandValues at (operandRead x size at (readFrom aModRM l)))
+operand x size at l =
+    answer-says (λ m n. OperandRead.Got (operandOf x size (m .mrrm .«register_or_memory»)) (at + n) (m .byte)) (λ e n. OperandRead.Refused e (at + n)) (operandValues at)
     (λ m n. ap (λ k. carrying 0 0 k 0) (back at n)) (λ e n. ap (λ k. refusedWith e k 0) (back at n)) aModRM l takes-modrm

@@ -3,6 +3,7 @@ use Prim.Native.Nat.{ℕ, zero, suc, _/_, _%_}
 use mathlib.Core.Bool.{cond}
 use lib.Dec.{eqb}
 use lib.IntN.{ℤ, pos, negsuc}
+use Rattle.mrc_instruction.specs.declared.reading.Reading.{Reading}
 use Rattle.mrc_instruction.specs.declared.register.Segment.{Segment}
 use Rattle.mrc_instruction.specs.declared.operand.OperandSize.{OperandSize}
 use Rattle.mrc_instruction.specs.declared.operand.Displacement.{Displacement}
@@ -10,7 +11,7 @@ use Rattle.mrc_instruction.specs.declared.operand.Operand.{Operand}
 use Rattle.mrc_instruction.specs.declared.mrrm.RegisterOrMemory.{RegisterOrMemory}
 use Rattle.mrc_instruction.specs.declared.mrrm.ModRegRM.{ModRegRM}
 use Rattle.mrc_instruction.specs.Register.{registerOf}
-use Rattle.mrc_instruction.specs.Operand.{addressingOf}
+use Rattle.mrc_instruction.specs.Operand.{addressingOf, segmentFor}
 use Rattle.mrc_instruction.specs.Signed.{signedByte, signedWord}
 use Rattle.mrc_instruction.specs.Reader.{Reader, done, _>>=_, aByte, aWord}
 
@@ -46,10 +47,10 @@ orNone written (pos zero) = Displacement.None
 orNone written (pos (suc n)) = written (pos (suc n))
 orNone written (negsuc n) = written (negsuc n)
 
--- the operand of a size; rule 4.4: in DS
-abbrev pub operandOf : OperandSize → RegisterOrMemory → Operand
-operandOf size (RegisterOrMemory.Direct w) = Operand.Direct Segment.DS size w
-operandOf size (RegisterOrMemory.Indirect mode) = Operand.Indirect Segment.DS size mode Displacement.None
-operandOf size (RegisterOrMemory.DisplacementByte mode d) = Operand.Indirect Segment.DS size mode (orNone Displacement.Byte d)
-operandOf size (RegisterOrMemory.DisplacementWord mode d) = Operand.Indirect Segment.DS size mode (orNone Displacement.Word d)
-operandOf size (RegisterOrMemory.Register r) = Operand.Register (record { 0 = r; 1 = size })
+-- the operand of a size; rule 4.4: Direct is in DS, Indirect in the segment of its mode
+abbrev pub operandOf : Reading → OperandSize → RegisterOrMemory → Operand
+operandOf x size (RegisterOrMemory.Direct w) = Operand.Direct Segment.DS size w
+operandOf x size (RegisterOrMemory.Indirect mode) = Operand.Indirect (segmentFor x mode) size mode Displacement.None
+operandOf x size (RegisterOrMemory.DisplacementByte mode d) = Operand.Indirect (segmentFor x mode) size mode (orNone Displacement.Byte d)
+operandOf x size (RegisterOrMemory.DisplacementWord mode d) = Operand.Indirect (segmentFor x mode) size mode (orNone Displacement.Word d)
+operandOf x size (RegisterOrMemory.Register r) = Operand.Register (record { 0 = r; 1 = size })

@@ -1,8 +1,9 @@
-// An instruction: its operation, its operands, how far it goes, and whether it is repeated.
+// An instruction: its operation, its operands, how far it goes, whether it is repeated, and the override that it keeps.
 use crate::operand::Operand;
 use crate::operation::Operation;
+use crate::register::Segment;
 ghost use mathlib.Core.Path.{_≡_};
-ghost use Rattle.mrc_instruction.specs.Instruction.{plain, reached, repeatedBy, onOperands};
+ghost use Rattle.mrc_instruction.specs.Instruction.{plain, reached, repeatedBy, onOperands, keepingIn};
 
 // The destination stands before the source.
 pub enum OperandSet {
@@ -29,16 +30,23 @@ pub enum Reach {
     Far,
 }
 
-// What is a byte or two stands first: in an answer each operand then begins a machine word.
+// An optional segment: that of the override before an operation which reads memory that no operand names.
+pub enum Kept {
+    None,
+    Some(Segment),
+}
+
+// What is a byte or two stands first, but for the kept override: in an answer each operand then begins a machine word.
 pub struct Instruction {
     pub reach: Reach,
     pub repeat: Repeated,
     pub operation: Operation,
     pub operands: OperandSet,
+    pub kept: Kept,
 }
 
 impl Instruction {
-    // The instruction with no repeat, neither near nor far.
+    // The instruction with no repeat, neither near nor far, that keeps no override.
     pub fn new(operation: Operation, operands: OperandSet) -> Self
         ensures { λ r. ⌜ r ≡ plain operation operands ⌝ }
     {
@@ -47,6 +55,7 @@ impl Instruction {
             repeat: Repeated::None,
             operation,
             operands,
+            kept: Kept::None,
         }
     }
 
@@ -57,11 +66,13 @@ impl Instruction {
         let repeat = self.repeat; // its repeat stays
         let operation = self.operation;
         let operands = self.operands;
+        let kept = self.kept;
         Self {
             reach,
             repeat,
             operation,
             operands,
+            kept,
         }
     }
 
@@ -72,11 +83,13 @@ impl Instruction {
         let reach = self.reach; // how far it goes stays
         let operation = self.operation;
         let operands = self.operands;
+        let kept = self.kept;
         Self {
             reach,
             repeat,
             operation,
             operands,
+            kept,
         }
     }
 
@@ -87,11 +100,30 @@ impl Instruction {
         let reach = self.reach; // under an override too
         let repeat = self.repeat;
         let operation = self.operation;
+        let kept = self.kept;
         Self {
             reach,
             repeat,
             operation,
             operands,
+            kept,
+        }
+    }
+
+    // The same instruction, which keeps an override of a segment.
+    pub fn keeping(self, segment: Segment) -> Self
+        ensures { λ r. ⌜ r ≡ keepingIn segment self ⌝ }
+    {
+        let reach = self.reach;
+        let repeat = self.repeat;
+        let operation = self.operation;
+        let operands = self.operands;
+        Self {
+            reach,
+            repeat,
+            operation,
+            operands,
+            kept: Kept::Some(segment),
         }
     }
 }

@@ -6,6 +6,7 @@ use Prim.Native.Nat.{ℕ, _+_, _-_, _≤_}
 use native.Mathlib.Omega.{arith}
 use lib.Dec.{lit≤}
 use lib.ListN.{length, take, getD, drop, replicate, length-append, length-take, length-replicate}
+use Rattle.mrc_instruction.specs.declared.reading.Reading.{Reading}
 use Rattle.mrc_instruction.specs.declared.register.RegisterEncoding.{RegisterEncoding}
 use Rattle.mrc_instruction.specs.declared.register.RegisterEncoding.the-variants.{AlAx, ClCx, DlDx, BlBx, AhSp, ChBp, DhSi, BhDi}
 use Rattle.mrc_instruction.specs.declared.register.Segment.{Segment}
@@ -20,6 +21,7 @@ use Rattle.mrc_instruction.specs.declared.operand.Operand.{Operand}
 use Rattle.mrc_instruction.specs.declared.instruction.OperandSet.{OperandSet}
 use Rattle.mrc_instruction.specs.declared.instruction.Repeat.{Repeat}
 use Rattle.mrc_instruction.specs.declared.instruction.Repeated.{Repeated}
+use Rattle.mrc_instruction.specs.declared.instruction.Kept.{Kept}
 use Rattle.mrc_instruction.specs.declared.instruction.Reach.{Reach}
 use Rattle.mrc_instruction.specs.declared.operation.Operation.{Operation}
 use Rattle.mrc_names.specs.Names.{nameOf}
@@ -30,7 +32,7 @@ use Rattle.mrc_line.specs.Text.{bytes, hex4, pairs, padded, shown, field
 use Rattle.mrc_line.specs.declared.printed.Printed.{Printed}
 use Rattle.mrc_line.specs.Printed.{alone, beside}
 use Rattle.mrc_line.specs.Operands.{registerText, segmentText, modeText, sizeText, displacementText, immediateText, memoryText, printedText, operandText, operandsText}
-use Rattle.mrc_line.specs.Line.{headText, repeatText, reachText, instructionText, bodyText, stepTaken, stepText, lineText, longest, budget}
+use Rattle.mrc_line.specs.Line.{headText, repeatText, keptText, reachText, instructionText, bodyText, stepTaken, stepText, lineText, longest, budget}
 use Rattle.mrc_line.proofs.Put.{pairs-length}
 
 register : (r : RegisterEncoding) (size : OperandSize) → length (registerText r size) ≡ 2
@@ -117,17 +119,23 @@ repeated Repeated.None = lit≤ tt
 repeated (Repeated.Some Repeat.Equal) = lit≤ tt
 repeated (Repeated.Some Repeat.NotEqual) = lit≤ tt
 
+kept : (k : Kept) → length (keptText k) ≤ 4
+kept Kept.None = lit≤ tt
+kept (Kept.Some s) = omega (arith, segment s, length-append (segmentText s) (bytes ": "))
+
 reach : (r : Reach) → length (reachText r) ≤ 4
 reach Reach.Neither = lit≤ tt
 reach Reach.Near = lit≤ tt
 reach Reach.Far = lit≤ tt
 
-body : (start b : ℕ) (a : Answer) → length (bodyText start b a) ≤ 59
+body : (start b : ℕ) (a : Answer) → length (bodyText start b a) ≤ 63
 unfolding instructionText
 body start b (Answer.Decoded i n p) =
     let o = operandsText (i .operation) start n (i .operands) in
     let f = reachText (i .reach) in
-    omega (arith, repeated (i .repeat), short (i .operation), reach (i .reach), operands (i .operation) start n (i .operands), length-append (repeatText (i .repeat)) (nameOf (i .operation) ++ (f ++ o)), length-append (nameOf (i .operation)) (f ++ o), length-append f o)
+    let m = nameOf (i .operation) in
+    let k = keptText (i .kept) in
+    omega (arith, repeated (i .repeat), kept (i .kept), short (i .operation), reach (i .reach), operands (i .operation) start n (i .operands), length-append (repeatText (i .repeat)) (k ++ (m ++ (f ++ o))), length-append k (m ++ (f ++ o)), length-append m (f ++ o), length-append f o)
 body start b (Answer.Refused e n p) = lit≤ tt
 
 step : (s : List ℕ) (at : ℕ) (a : Answer) → length (stepText s at a) ≤ longest
@@ -137,6 +145,6 @@ step s at a =
     let b = bodyText at (getD s at 0) a in
     omega (arith, head at t, body at (getD s at 0) a, length-append (headText at t) (b ++ (10 ∷ [])), length-append b (10 ∷ []))
 
-pub line-longest : (s : List ℕ) (at : ℕ) → length (lineText s at) ≤ longest
+pub line-longest : (x : Reading) (s : List ℕ) (at : ℕ) → length (lineText x s at) ≤ longest
 unfolding lineText
-line-longest s at = step s at (decodeAt s at budget)
+line-longest x s at = step s at (decodeAt x s at budget)

@@ -8,6 +8,6 @@ pub mod Answers
 pub mod Paging
 pub mod Settled
 pub mod Returns
-pub mod Reaches
+pub mod ByBytes
 pub mod Example
 pub mod Main

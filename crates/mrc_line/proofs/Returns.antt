@@ -6,6 +6,8 @@ use Prim.Native.Nat.{ℕ, _+_, _*_, _/_, _%_, _<_, _≤_}
 use native.Mathlib.Omega.{arith}
 use borrow.Author.Tests.{ne-eqb, le-leb}
 use lib.ListN.{length, take, drop, length-drop}
+use Rattle.mrc_instruction.specs.declared.reading.Reading.{Reading}
+use Rattle.mrc_instruction.specs.declared.reading.Reading.the-variants.{One, Two}
 use Rattle.mrc_instruction.specs.declared.operand.Displacement.{Displacement}
 use Rattle.mrc_instruction.specs.declared.operand.Immediate.{Immediate}
 use Rattle.mrc_instruction.specs.declared.operand.Operand.{Operand}
@@ -52,26 +54,30 @@ module _ (s : List ℕ) (at low high : ℕ) (l : List ℕ) (low-byte : low < 256
 
   -- an instruction of three bytes that prints as a name and its word
   listed :
-      (name : List ℕ) (opcode : ℕ) (i : Instruction) → There opcode → decodeAt s at budget ≡ Answer.Decoded i 3 0 →
-      instructionText at 3 i ≡ name ++ hex4 (low + 256 * high) → lineText s at ≡ text name opcode
+      (x : Reading) (name : List ℕ) (opcode : ℕ) (i : Instruction) → There opcode → decodeAt x s at budget ≡ Answer.Decoded i 3 0 →
+      instructionText at 3 i ≡ name ++ hex4 (low + 256 * high) → lineText x s at ≡ text name opcode
   unfolding lineText stepText
-  listed name opcode i there decoded printed =
-      ap (stepText s at) decoded ∙ ap (λ (x : List ℕ). headText at (take 3 x) ++ (instructionText at 3 i ++ lineEnd)) there
-      ∙ ap (λ (x : List ℕ). headText at (opcode ∷ low ∷ high ∷ []) ++ (x ++ lineEnd)) (printed ∙ ap (λ (x : List ℕ). name ++ x) (digits low high low-byte))
-      ∙ ap (λ (x : List ℕ). headText at (opcode ∷ low ∷ high ∷ []) ++ x) (append-assoc name (hex2 high ++ hex2 low) lineEnd)
+  listed x name opcode i there decoded printed =
+      ap (stepText s at) decoded ∙ ap (λ (y : List ℕ). headText at (take 3 y) ++ (instructionText at 3 i ++ lineEnd)) there
+      ∙ ap (λ (y : List ℕ). headText at (opcode ∷ low ∷ high ∷ []) ++ (y ++ lineEnd)) (printed ∙ ap (λ (y : List ℕ). name ++ y) (digits low high low-byte))
+      ∙ ap (λ (y : List ℕ). headText at (opcode ∷ low ∷ high ∷ []) ++ y) (append-assoc name (hex2 high ++ hex2 low) lineEnd)
 
   within : (opcode : ℕ) → There opcode → at ≤ length s
   within opcode there = omega (arith, length-drop at s, ap length there)
 
-  pub near : There 0xC2 → lineText s at ≡ text (bytes "RET ") 0xC2
+  -- the word of C2 is a displacement, and in reading 2 an immediate; that of CA is an immediate
+  pub near : (x : Reading) → There 0xC2 → lineText x s at ≡ text (bytes "RET ") 0xC2
   unfolding instructionText rows rowOf aByte aWord
-  near there =
-      listed (bytes "RET ") 0xC2 (reached Near (one RET (Operand.Displacement (Displacement.Word (signedWord (low + 256 * high)))))) there
+  near One there =
+      listed One (bytes "RET ") 0xC2 (reached Near (one RET (Operand.Displacement (Displacement.Word (signedWord (low + 256 * high)))))) there
       (rw (le-leb at (length s) (within 0xC2 there)) (rw there refl))
       (ap (λ (w : ℕ). bytes "RET " ++ hex4 w) (unsigned-back 32768 65535 refl (low + 256 * high) (omega arith)))
+  near Two there =
+      listed Two (bytes "RET ") 0xC2 (reached Near (one RET (Operand.Immediate (Immediate.Word (low + 256 * high))))) there
+      (rw (le-leb at (length s) (within 0xC2 there)) (rw there refl)) refl
 
-  pub far : There 0xCA → lineText s at ≡ text (bytes "RET FAR ") 0xCA
+  pub far : (x : Reading) → There 0xCA → lineText x s at ≡ text (bytes "RET FAR ") 0xCA
   unfolding instructionText rows rowOf aByte aWord
-  far there =
-      listed (bytes "RET FAR ") 0xCA (reached Far (one RET (Operand.Immediate (Immediate.Word (low + 256 * high))))) there
+  far x there =
+      listed x (bytes "RET FAR ") 0xCA (reached Far (one RET (Operand.Immediate (Immediate.Word (low + 256 * high))))) there
       (rw (le-leb at (length s) (within 0xCA there)) (rw there refl)) refl

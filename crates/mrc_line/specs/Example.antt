@@ -1,4 +1,4 @@
--- Rules 16.3 and 16.4: thirteen bytes, and the six lines that they list as; and calls, jumps and returns, near and far.
+-- Rules 16.4 to 16.6: thirteen bytes, and the six lines that they list as; calls, jumps and returns, near and far; and what reading 2 has otherwise.
 use mathlib.Core.List.{List, [], _∷_}
 use Prim.Native.Nat.{ℕ}
 use Prim.Native.String.{String}
@@ -52,4 +52,56 @@ transfersPrinted =
     ∷ "001F  EB FE                  JMP 001F"
     ∷ "0021  F3 26 FF 6E 05         REPE JMP FAR WORD ES:[BP+05]"
     ∷ "0026  CF                     IRET"
+    ∷ []
+
+abbrev pub differences : List ℕ
+differences =
+    0x83 ∷ 0xC0 ∷ 0xFF
+    ∷ 0x8B ∷ 0x46 ∷ 0x02
+    ∷ 0x8B ∷ 0x42 ∷ 0xFE
+    ∷ 0x8B ∷ 0x03
+    ∷ 0x3E ∷ 0x8B ∷ 0x46 ∷ 0x02
+    ∷ 0x8D ∷ 0x5E ∷ 0xFC
+    ∷ 0xC4 ∷ 0x7E ∷ 0x04
+    ∷ 0xC5 ∷ 0x76 ∷ 0x06
+    ∷ 0xD2 ∷ 0xE0
+    ∷ 0xD3 ∷ 0xE0
+    ∷ 0xC2 ∷ 0x04 ∷ 0x00
+    ∷ 0xD9 ∷ 0x46 ∷ 0x10
+    ∷ 0xD8 ∷ 0xC3
+    ∷ 0x26 ∷ 0xD8 ∷ 0x07
+    ∷ 0x26 ∷ 0xA4
+    ∷ 0xF3 ∷ 0x26 ∷ 0xA4
+    ∷ 0x26 ∷ 0xF3 ∷ 0xA4
+    ∷ 0xF2 ∷ 0x2E ∷ 0xA6
+    ∷ 0x3E ∷ 0xAC
+    ∷ 0x36 ∷ 0xD7
+    ∷ 0x26
+    ∷ 0xAA
+    ∷ []
+
+abbrev pub differencesPrinted : List String
+differencesPrinted =
+    "0000  83 C0 FF               ADD AX, FFFF"
+    ∷ "0003  8B 46 02               MOV AX, WORD SS:[BP+02]"
+    ∷ "0006  8B 42 FE               MOV AX, WORD SS:[BP+SI-02]"
+    ∷ "0009  8B 03                  MOV AX, WORD SS:[BP+DI]"
+    ∷ "000B  3E 8B 46 02            MOV AX, WORD DS:[BP+02]"
+    ∷ "000F  8D 5E FC               LEA BX, WORD SS:[BP-04]"
+    ∷ "0012  C4 7E 04               LES DI, WORD SS:[BP+04]"
+    ∷ "0015  C5 76 06               LDS SI, WORD SS:[BP+06]"
+    ∷ "0018  D2 E0                  SHL AL, CL"
+    ∷ "001A  D3 E0                  SHL AX, CL"
+    ∷ "001C  C2 04 00               RET 0004"
+    ∷ "001F  D9 46 10               ESC WORD SS:[BP+10]"
+    ∷ "0022  D8 C3                  ESC BX"
+    ∷ "0024  26 D8 07               ESC WORD ES:[BX]"
+    ∷ "0027  26 A4                  ES: MOVSB"
+    ∷ "0029  F3 26 A4               REPE ES: MOVSB"
+    ∷ "002C  26 F3 A4               REPE ES: MOVSB"
+    ∷ "002F  F2 2E A6               REPNE CS: CMPSB"
+    ∷ "0032  3E AC                  DS: LODSB"
+    ∷ "0034  36 D7                  SS: XLATB"
+    ∷ "0036  26                     DB 26"
+    ∷ "0037  AA                     STOSB"
     ∷ []

@@ -1,6 +1,7 @@
 // The line call.
 use crate::write::write_line;
 use mrc_instruction::errors::Refusal;
+use mrc_instruction::reading::Reading;
 use mrc_instruction::widths::WORDS;
 use mrc_names::names::table;
 ghost use Rattle.mrc_line.specs.Line.{Listed};
@@ -14,9 +15,10 @@ pub enum LineAnswer {
 // The most bytes that an image has: one for each offset.
 pub const OFFSETS: usize = WORDS;
 
-// Writes the line at a position of the image, with its LF, and answers its length and the bytes taken. A refused call changes no byte.
-pub fn line(image: &[u8], at: usize, out: &mut [u8]) -> LineAnswer
-    ensures { λ r. ⌜ Listed (now (image .entry)) at (now (out .entry)) r (now (out .exit)) ⌝ }
+// Writes the line at a position of the image, as the reading has it, with its LF, and answers its length and the bytes taken. A refused call changes
+// no byte.
+pub fn line(image: &[u8], at: usize, reading: Reading, out: &mut [u8]) -> LineAnswer
+    ensures { λ r. ⌜ Listed reading (now (image .entry)) at (now (out .entry)) r (now (out .exit)) ⌝ }
 {
     if OFFSETS < image.len() {
         return LineAnswer::Refused(Refusal::ImageTooLong);
@@ -28,5 +30,5 @@ pub fn line(image: &[u8], at: usize, out: &mut [u8]) -> LineAnswer
         return LineAnswer::Refused(Refusal::EndOfInput);
     }
     let names = table();
-    write_line(out, &names, image, at)
+    write_line(out, &names, image, at, reading)
 }

@@ -87,6 +87,17 @@ fn put_operand(buf: &mut [u8], at: usize, operand: Operand) -> usize
     }
 }
 
+// The same: a register, as most operands are, without a further call.
+fn put_beside(buf: &mut [u8], at: usize, operand: Operand) -> usize
+    requires { ⌜ at + 20 ≤ length (now buf) ⌝ }
+    ensures { λ r. ⌜ Put 20 (now (buf .entry)) at (operandText beside operand) (now (buf .exit)) r ⌝ }
+{
+    match operand {
+        Operand::Register(register) => put_register(buf, at, register),
+        _ => put_operand(buf, at, operand),
+    }
+}
+
 // A destination that stands alone.
 fn put_alone(
     buf: &mut [u8],
@@ -127,9 +138,9 @@ pub fn put_operands(
         }
         OperandSet::DestinationAndSource(destination, source) => {
             let d = put_byte(buf, at, b' ');
-            let c = put_operand(buf, d, destination);
+            let c = put_beside(buf, d, destination);
             let s = put_bytes(buf, c, b", ");
-            put_operand(buf, s, source)
+            put_beside(buf, s, source)
         }
     }
 }

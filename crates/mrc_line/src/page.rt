@@ -2,6 +2,7 @@
 use crate::line::LineAnswer;
 use crate::line::OFFSETS;
 use crate::write::write_line;
+use mrc_instruction::reading::Reading;
 use mrc_names::names::table;
 ghost use Rattle.mrc_line.specs.Page.{Paged};
 
@@ -11,9 +12,9 @@ pub struct Page {
     pub next: usize,
 }
 
-// Writes as many whole lines as fit, from a position of the image on.
-pub fn write_page(image: &[u8], at: usize, out: &mut [u8]) -> Page
-    ensures { λ r. ⌜ Paged (now (image .entry)) at (now (out .entry)) r (now (out .exit)) ⌝ }
+// Writes as many whole lines as fit, from a position of the image on, as the reading has them.
+pub fn write_page(image: &[u8], at: usize, reading: Reading, out: &mut [u8]) -> Page
+    ensures { λ r. ⌜ Paged reading (now (image .entry)) at (now (out .entry)) r (now (out .exit)) ⌝ }
 {
     if OFFSETS < image.len() {
         return Page { len: 0, next: at };
@@ -22,7 +23,7 @@ pub fn write_page(image: &[u8], at: usize, out: &mut [u8]) -> Page
     let mut len = 0;
     let mut next = at;
     while next < image.len() {
-        match write_line(&mut out[len..], &names, image, next) {
+        match write_line(&mut out[len..], &names, image, next, reading) {
             LineAnswer::Line { len: more, taken } => {
                 len += more;
                 next += taken;

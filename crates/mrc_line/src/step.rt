@@ -1,6 +1,7 @@
 // The line of one step of a listing, from its offset to its LF.
 use crate::names::put_name;
 use crate::operands::put_operands;
+use crate::registers::put_segment;
 use crate::text::SHOWN;
 use crate::text::put_byte;
 use crate::text::put_bytes;
@@ -8,6 +9,7 @@ use crate::text::put_field;
 use crate::text::put_hex2;
 use crate::text::put_spaces;
 use mrc_instruction::instruction::Instruction;
+use mrc_instruction::instruction::Kept;
 use mrc_instruction::instruction::Reach;
 use mrc_instruction::instruction::Repeat;
 use mrc_instruction::instruction::Repeated;
@@ -18,7 +20,7 @@ ghost use lib.ListN.{length};
 ghost use Rattle.mrc_names.specs.Names.{nameTable};
 ghost use Rattle.mrc_line.specs.Target.{offsets};
 ghost use Rattle.mrc_line.specs.Text.{Put};
-ghost use Rattle.mrc_line.specs.Line.{headText, repeatText, reachText, instructionText, dbText, bodyText, stepText, stepTaken, longest};
+ghost use Rattle.mrc_line.specs.Line.{headText, repeatText, keptText, reachText, instructionText, dbText, bodyText, stepText, stepTaken, longest};
 
 fn least(a: usize, b: usize) -> usize
     ensures { λ r. ⌜ r ≡ min a b ⌝ }
@@ -52,6 +54,20 @@ fn put_repeat(buf: &mut [u8], at: usize, repeated: Repeated) -> usize
     }
 }
 
+// The override that an instruction keeps, with its colon.
+fn put_kept(buf: &mut [u8], at: usize, kept: Kept) -> usize
+    requires { ⌜ at + 4 ≤ length (now buf) ⌝ }
+    ensures { λ r. ⌜ Put 4 (now (buf .entry)) at (keptText kept) (now (buf .exit)) r ⌝ }
+{
+    match kept {
+        Kept::None => at,
+        Kept::Some(segment) => {
+            let c = put_segment(buf, at, segment);
+            put_bytes(buf, c, b": ")
+        }
+    }
+}
+
 // What stands behind the name of a call, a jump or a return that is far.
 fn put_reach(buf: &mut [u8], at: usize, reach: Reach) -> usize
     requires { ⌜ at + 4 ≤ length (now buf) ⌝ }
@@ -73,17 +89,19 @@ fn put_instruction(
     taken: u16,
     instruction: Instruction,
 ) -> usize
-    requires { ⌜ (at + 59 ≤ length (now buf)) × (now names ≡ nameTable) ⌝ }
-    ensures { λ r. ⌜ Put 59 (now (buf .entry)) at (instructionText start taken instruction) (now (buf .exit)) r ⌝ }
+    requires { ⌜ (at + 63 ≤ length (now buf)) × (now names ≡ nameTable) ⌝ }
+    ensures { λ r. ⌜ Put 63 (now (buf .entry)) at (instructionText start taken instruction) (now (buf .exit)) r ⌝ }
 {
     let reach = instruction.reach;
     let repeat = instruction.repeat;
+    let kept = instruction.kept;
     let operation = instruction.operation;
     let operands = instruction.operands;
     let a = put_repeat(buf, at, repeat);
-    let b = put_name(buf, a, names, operation);
-    let c = put_reach(buf, b, reach);
-    put_operands(buf, c, operation, start, taken, operands)
+    let b = put_kept(buf, a, kept);
+    let c = put_name(buf, b, names, operation);
+    let d = put_reach(buf, c, reach);
+    put_operands(buf, d, operation, start, taken, operands)
 }
 
 // A byte that is not decoded.
@@ -122,8 +140,8 @@ fn put_body(
     byte: u8,
     answer: Answer,
 ) -> usize
-    requires { ⌜ (at + 59 ≤ length (now buf)) × (now names ≡ nameTable) × (stepTaken answer < offsets) ⌝ }
-    ensures { λ r. ⌜ Put 59 (now (buf .entry)) at (bodyText start byte answer) (now (buf .exit)) r ⌝ }
+    requires { ⌜ (at + 63 ≤ length (now buf)) × (now names ≡ nameTable) × (stepTaken answer < offsets) ⌝ }
+    ensures { λ r. ⌜ Put 63 (now (buf .entry)) at (bodyText start byte answer) (now (buf .exit)) r ⌝ }
 {
     match answer {
         Answer::Decoded {

@@ -5,6 +5,7 @@ use mathlib.Core.List.{List}
 use Prim.Native.Nat.{ℕ, _≤_}
 use native.Mathlib.Omega.{arith}
 use lib.ListN.{length}
+use Rattle.mrc_instruction.specs.declared.reading.Reading.the-variants.{One}
 use Rattle.mrc_instruction.specs.Promise.{ExactlyOne}
 use Rattle.mrc_line.specs.Target.{offsets}
 use Rattle.mrc_line.specs.Line.{longest}
@@ -35,8 +36,8 @@ pub only-input : (n : ℕ) (r : Input) → Reads n 0 r → r ≡ inputOf n
 only-input n r h = Counts.comes-to h
 
 -- for an image the listing of all of it is written, and nothing else, whatever the size of the buffer that pages are made in
-pub listing-written : (image out : List ℕ) → length image ≤ offsets → longest ≤ length out → Writes image 0 out (textOf image (linesOf image))
+pub listing-written : (image out : List ℕ) → length image ≤ offsets → longest ≤ length out → Writes image 0 out (textOf One image (linesOf One image))
 listing-written image out h k = Turns.listing-written image h (length image) 0 out (omega arith) k
 
-pub only-listing : (image out text : List ℕ) → length image ≤ offsets → longest ≤ length out → Writes image 0 out text → text ≡ textOf image (linesOf image)
+pub only-listing : (image out text : List ℕ) → length image ≤ offsets → longest ≤ length out → Writes image 0 out text → text ≡ textOf One image (linesOf One image)
 only-listing image out text h k w = Turns.only-listing image h k w

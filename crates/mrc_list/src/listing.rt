@@ -1,4 +1,5 @@
 // What is written for an input: the pages of its listing, one after the other, or that it is too long.
+use mrc_instruction::reading::Reading;
 use mrc_line::page::Page;
 use mrc_line::page::write_page;
 ghost use mathlib.Core.Path.{_≡_};
@@ -22,7 +23,7 @@ pub fn next_page(image: &[u8], at: usize, out: &mut [u8]) -> Turn
     ensures { λ r. ⌜ Turned (now (image .entry)) at (now (out .entry)) r (now (out .exit)) ⌝ }
 {
     if at < image.len() {
-        let page = write_page(image, at, out);
+        let page = write_page(image, at, Reading::One, out);
         return Turn::Page(page);
     }
     Turn::Finished

@@ -7,24 +7,28 @@ use lib.ListN.{length}
 use Rattle.mrc_rules.specs.Forms.{withModRM}
 use Rattle.mrc_rules.specs.Table.{rows, rowOf}
 use Rattle.mrc_rules.specs.Prefixes.{overrideSegment, repeatOf}
-use Rattle.mrc_rules.specs.Cases.{Case, cases, easilyMistaken}
-use Rattle.mrc_rules.specs.Decode.{decodeAt}
+use Rattle.mrc_rules.specs.Cases.{cases, easilyMistaken, secondReading, Held}
+use Rattle.mrc_instruction.specs.declared.reading.Reading.{Reading}
 use Rattle.mrc_instruction.specs.declared.register.Segment.the-variants.{ES, CS, SS, DS}
 use Rattle.mrc_instruction.specs.declared.instruction.Repeat.{Repeat}
 use Rattle.mrc_instruction.specs.declared.instruction.Repeated.{Repeated}
 use Rattle.mrc_instruction.specs.Reader.{aByte, aWord}
 
-pub table-whole : length rows ≡ 256
+pub table-whole : (x : Reading) → length (rows x) ≡ 256
 unfolding rows
-table-whole = refl
+table-whole x = refl
 
-pub cases-hold : map (λ (c : Case). decodeAt (c .input) 0 (c .budget)) cases ≡ map (λ (c : Case). c .answer) cases
+pub cases-hold : Held cases
 unfolding rows rowOf aByte aWord withModRM
 cases-hold = refl
 
-pub mistaken : map (λ (c : Case). decodeAt (c .input) 0 (c .budget)) easilyMistaken ≡ map (λ (c : Case). c .answer) easilyMistaken
+pub mistaken : Held easilyMistaken
 unfolding rows rowOf aByte aWord withModRM
 mistaken = refl
+
+pub second-reading : Held secondReading
+unfolding rows rowOf aByte aWord withModRM
+second-reading = refl
 
 pub overrides-named : map overrideSegment (0x26 ∷ 0x2E ∷ 0x36 ∷ 0x3E ∷ []) ≡ ES ∷ CS ∷ SS ∷ DS ∷ []
 overrides-named = refl

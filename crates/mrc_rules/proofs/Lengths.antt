@@ -9,6 +9,8 @@ use native.Mathlib.Omega.{arith}
 use lib.ListN.{length, getD}
 use lib.Dec.{eqb, leb}
 use borrow.Author.Tests.{leb-true}
+use Rattle.mrc_instruction.specs.declared.reading.Reading.{Reading}
+use Rattle.mrc_instruction.specs.declared.reading.Reading.the-variants.{One, Two}
 use Rattle.mrc_instruction.specs.declared.instruction.Instruction.{Instruction}
 use Rattle.mrc_instruction.specs.declared.errors.Refusal.{Refusal}
 use Rattle.mrc_instruction.specs.Reader.{Outcome, got, stopped, takenBy, readFrom}
@@ -43,9 +45,10 @@ All : List Extra → Bool
 All [] = true
 All (e ∷ l) = isShort e && All l
 
-all-short : All extras ≡ true
+all-short : (x : Reading) → All (extras x) ≡ true
 unfolding All extras
-all-short = refl
+all-short One = refl
+all-short Two = refl
 
 and-first : (a b : Bool) → a && b ≡ true → a ≡ true
 and-first true b e = refl
@@ -71,17 +74,17 @@ short-length (tested n) l h = go (eqb (regAt l) 0)
     go true = omega (arith, leb-true n 2 h, displacement-short (byteAt l 1 / 64) (byteAt l 1 % 8))
     go false = omega (arith, displacement-short (byteAt l 1 / 64) (byteAt l 1 % 8))
 
-whole-short : (l : List ℕ) → wholeLength l ≤ 6
-whole-short l = short-length (getD extras (byteAt l 0) no) l (one-short extras (byteAt l 0) all-short)
+whole-short : (x : Reading) (l : List ℕ) → wholeLength x l ≤ 6
+whole-short x l = short-length (getD (extras x) (byteAt l 0) no) l (one-short (extras x) (byteAt l 0) (all-short x))
 
-tail-six : (l : List ℕ) → takenBy (tail rules l) ≤ 6
-tail-six [] = omega arith
-tail-six (opcode ∷ l) = go (tail rules (opcode ∷ l)) (tail-comes opcode l)
+tail-six : (x : Reading) (l : List ℕ) → takenBy (tail (rules x) l) ≤ 6
+tail-six x [] = omega arith
+tail-six x (opcode ∷ l) = go (tail (rules x) (opcode ∷ l)) (tail-comes x opcode l)
   where
-    go : (o : Outcome Tail) → Comes (opcode ∷ l) o → takenBy o ≤ 6
-    go (got i n) h = omega (arith, h .whole, whole-short (opcode ∷ l))
+    go : (o : Outcome Tail) → Comes x (opcode ∷ l) o → takenBy o ≤ 6
+    go (got i n) h = omega (arith, h .whole, whole-short x (opcode ∷ l))
     go (stopped e n) h =
-        ⊎-elim (λ w. omega (arith, w .whole, whole-short (opcode ∷ l))) (λ w. omega (arith, w .all, w .short, whole-short (opcode ∷ l))) h
+        ⊎-elim (λ w. omega (arith, w .whole, whole-short x (opcode ∷ l))) (λ w. omega (arith, w .all, w .short, whole-short x (opcode ∷ l))) h
 
 -- one to six bytes, under any rules by which no tail takes more than six
 module _ (R : Rules) (tail-short : (l : List ℕ) → takenBy (tail R l) ≤ 6) where
@@ -119,8 +122,9 @@ module _ (R : Rules) (tail-short : (l : List ℕ) → takenBy (tail R l) ≤ 6) 
   length-rule-by s at b i n p e = subst Short e (at-position R Short s at b (length-by b) absurd) tt
 
 -- under the rules of docs/RULES.md
-pub length-rule : (s : List ℕ) (at b : ℕ) (i : Instruction) (n p : ℕ) → decodeAt s at b ≡ Answer.Decoded i n p → (p + 1 ≤ n) × (n ≤ p + 6)
-length-rule = length-rule-by rules tail-six
+pub length-rule : (x : Reading) (s : List ℕ) (at b : ℕ) (i : Instruction) (n p : ℕ) → decodeAt x s at b ≡ Answer.Decoded i n p
+    → (p + 1 ≤ n) × (n ≤ p + 6)
+length-rule x = length-rule-by (rules x) (tail-six x)
 
-pub at-most-six : (s : List ℕ) (at b : ℕ) → taken (decodeAt s at b) ≤ prefixes (decodeAt s at b) + 6
-at-most-six = at-most-six-by rules tail-six
+pub at-most-six : (x : Reading) (s : List ℕ) (at b : ℕ) → taken (decodeAt x s at b) ≤ prefixes (decodeAt x s at b) + 6
+at-most-six x = at-most-six-by (rules x) (tail-six x)

@@ -1,11 +1,15 @@
--- Rules 16.1 and 16.2: the numbered cases, each an input under its budget with the answer that it has.
+-- Rules 16.1 to 16.3: the numbered cases, each an input under its budget with the answer that it has in a reading.
 use Prim.Native.Nat.{ℕ}
-use mathlib.Core.List.{List, [], _∷_}
+use mathlib.Core.Path.{_≡_}
+use mathlib.Core.List.{List, [], _∷_, map}
 use lib.IntN.{pos, negsuc}
+use Rattle.mrc_instruction.specs.declared.reading.Reading.{Reading}
+use Rattle.mrc_instruction.specs.declared.reading.Reading.the-variants.{One, Two}
 use Rattle.mrc_instruction.specs.declared.register.Segment.the-variants.{ES, CS, SS, DS}
 use Rattle.mrc_instruction.specs.declared.register.Segment.{Segment}
-use Rattle.mrc_instruction.specs.declared.register.RegisterEncoding.the-variants.{AlAx, BlBx}
-use Rattle.mrc_instruction.specs.declared.operand.AddressingMode.the-variants.{BxSi, BpSi, Bp, Bx}
+use Rattle.mrc_instruction.specs.declared.register.RegisterEncoding.the-variants.{AlAx, ClCx, BlBx}
+use Rattle.mrc_instruction.specs.declared.operand.AddressingMode.{AddressingMode}
+use Rattle.mrc_instruction.specs.declared.operand.AddressingMode.the-variants.{BxSi, BxDi, BpSi, BpDi, Si, Di, Bp, Bx}
 use Rattle.mrc_instruction.specs.declared.operand.OperandSize.the-variants.{Byte, Word}
 use Rattle.mrc_instruction.specs.declared.operand.OperandSize.{OperandSize}
 use Rattle.mrc_instruction.specs.declared.operand.Displacement.{Displacement}
@@ -14,25 +18,35 @@ use Rattle.mrc_instruction.specs.declared.operand.Operand.{Operand}
 use Rattle.mrc_instruction.specs.declared.instruction.OperandSet.{OperandSet}
 use Rattle.mrc_instruction.specs.declared.instruction.Repeat.{Repeat}
 use Rattle.mrc_instruction.specs.declared.instruction.Repeated.{Repeated}
+use Rattle.mrc_instruction.specs.declared.instruction.Kept.{Kept}
 use Rattle.mrc_instruction.specs.declared.instruction.Reach.{Reach}
 use Rattle.mrc_instruction.specs.declared.instruction.Reach.the-variants.{Neither, Near, Far}
 use Rattle.mrc_instruction.specs.declared.instruction.Instruction.{Instruction}
 use Rattle.mrc_instruction.specs.declared.operation.Operation.{Operation}
-use Rattle.mrc_instruction.specs.declared.operation.Operation.the-variants.{ADD, CALL, IN, IRET, JE, JMP, JNE, LES, MOV, MOVSB, OR, OUT, PUSH, RET, TEST, XCHG}
+use Rattle.mrc_instruction.specs.declared.operation.Operation.the-variants.{ADC, ADD, AND, CALL, CMP, CMPSB, CMPSW, ESC, IN, IRET, JE, JMP, JNE, LDS, LEA, LES, LODSB, LODSW, MOV, MOVSB, MOVSW, OR, OUT, PUSH, RET, SBB, SHL, SUB, TEST, XCHG, XLATB, XOR}
 use Rattle.mrc_instruction.specs.declared.errors.Refusal.the-variants.{EndOfInput, CouldNotReadExtraBytes, InvalidModRegRMEncoding, InvalidOpCode, InvalidSegmentEncoding, InvalidPrefix, TooManyPrefixes}
 use Rattle.mrc_rules.specs.declared.Answer.{Answer}
 use Rattle.mrc_rules.specs.declared.Answer.the-variants.{Decoded, Refused}
 use Rattle.mrc_instruction.specs.Instruction.{reached}
 use Rattle.mrc_rules.specs.Forms.{none, one, two, register}
+use Rattle.mrc_rules.specs.Decode.{decodeAt}
 
--- an input with its budget, and the answer that it has
+-- a reading, an input with its budget, and the answer that it has
 pub record Case : Type 0 where
+  pub reading : Reading
   pub budget : ℕ
   pub input : List ℕ
   pub answer : Answer
 
 abbrev pub case : ℕ → List ℕ → Answer → Case
-case b l a = record { budget = b; input = l; answer = a }
+case b l a = record { reading = One; budget = b; input = l; answer = a }
+
+abbrev pub second : List ℕ → Answer → Case
+second l a = record { reading = Two; budget = 15; input = l; answer = a }
+
+-- every case of a list has its answer
+abbrev pub Held : List Case → Type 0
+Held l = map (λ (c : Case). decodeAt (c .reading) (c .input) 0 (c .budget)) l ≡ map (λ (c : Case). c .answer) l
 
 abbrev pub cases : List Case
 cases =
@@ -51,7 +65,7 @@ cases =
     (Decoded (two ADD (Operand.Indirect DS Word BxSi (Displacement.Word (pos 0x1234))) (Operand.Immediate (Immediate.Word 0x5678))) 6 0)  -- 11
     ∷ case 15 (0x81 ∷ 0x80 ∷ 0x34 ∷ 0x12 ∷ 0x78 ∷ []) (Refused CouldNotReadExtraBytes 5 0)  -- 11
     ∷ case 15 (0xF2 ∷ 0xF3 ∷ 0xA4 ∷ [])
-    (Decoded (record { reach = Neither; repeat = Repeated.Some Repeat.NotEqual; operation = MOVSB; operands = OperandSet.None }) 3 2)  -- 12
+    (Decoded (record { reach = Neither; repeat = Repeated.Some Repeat.NotEqual; operation = MOVSB; operands = OperandSet.None; kept = Kept.None }) 3 2)  -- 12
     ∷ case 0 (0xF3 ∷ 0x90 ∷ []) (Refused (TooManyPrefixes 0xF3) 1 1)  -- 13
     ∷ []
 
@@ -66,6 +80,7 @@ repeatedMov = record {
   repeat = Repeated.Some Repeat.Equal;
   operation = MOV;
   operands = OperandSet.DestinationAndSource (register AlAx Word) (Operand.Indirect ES Word Bx Displacement.None);
+  kept = Kept.None;
 }
 
 -- a call, a jump or a return on one operand; such an operand: memory through BX, a far address
@@ -85,6 +100,7 @@ repeatedCall = record {
   repeat = Repeated.Some Repeat.Equal;
   operation = CALL;
   operands = OperandSet.Destination (atBx DS Word);
+  kept = Kept.None;
 }
 
 -- rule 16.2: inputs that a decoder may get wrong and still look right
@@ -157,4 +173,84 @@ easilyMistaken =
     -- how far it goes stays under an override and under a repeat
     ∷ case 15 (0x26 ∷ 0xFF ∷ 0x1F ∷ []) (goes Far CALL (atBx ES Word) 3 1)
     ∷ case 15 (0xF3 ∷ 0xFF ∷ 0x1F ∷ []) (Decoded repeatedCall 3 1)
+    ∷ []
+
+-- an arithmetic operation on AX and a word
+abbrev pub axAnd : Operation → ℕ → ℕ → ℕ → Answer
+axAnd op word = Decoded (two op (register AlAx Word) (Operand.Immediate (Immediate.Word word)))
+
+-- a word of memory in a segment, with no displacement
+abbrev pub wordIn : Segment → AddressingMode → Operand
+wordIn segment mode = Operand.Indirect segment Word mode Displacement.None
+
+-- ESC of an operand; an operation that keeps an override
+abbrev pub escapes : Operand → ℕ → ℕ → Answer
+escapes operand = Decoded (one ESC operand)
+
+abbrev pub keepsIn : Segment → Repeated → Operation → ℕ → ℕ → Answer
+keepsIn segment repeat op =
+    Decoded (record { reach = Neither; repeat = repeat; operation = op; operands = OperandSet.None; kept = Kept.Some segment })
+
+-- rule 16.3: reading 2
+abbrev pub secondReading : List Case
+secondReading =
+    -- 83 extends the sign, whatever reg is
+    second (0x83 ∷ 0xC0 ∷ 0xFF ∷ []) (axAnd ADD 0xFFFF 3 0)
+    ∷ second (0x83 ∷ 0xC8 ∷ 0x80 ∷ []) (axAnd OR 0xFF80 3 0)
+    ∷ second (0x83 ∷ 0xD0 ∷ 0x7F ∷ []) (axAnd ADC 0x007F 3 0)
+    ∷ second (0x83 ∷ 0xD8 ∷ 0xFF ∷ []) (axAnd SBB 0xFFFF 3 0)
+    ∷ second (0x83 ∷ 0xE0 ∷ 0xFF ∷ []) (axAnd AND 0xFFFF 3 0)
+    ∷ second (0x83 ∷ 0xE8 ∷ 0xFF ∷ []) (axAnd SUB 0xFFFF 3 0)
+    ∷ second (0x83 ∷ 0xF0 ∷ 0xFF ∷ []) (axAnd XOR 0xFFFF 3 0)
+    ∷ second (0x83 ∷ 0xF8 ∷ 0xFF ∷ []) (axAnd CMP 0xFFFF 3 0)
+    -- 80 to 82 as in reading 1
+    ∷ second (0x80 ∷ 0xC0 ∷ 0xFF ∷ []) (Decoded (two ADD (register AlAx Byte) (Operand.Immediate (Immediate.Byte 0xFF))) 3 0)
+    -- the segment is SS where BP is the base, in each mod, and else DS
+    ∷ second (0x8B ∷ 0x00 ∷ []) (movAxFrom (wordIn DS BxSi) 2 0)
+    ∷ second (0x8B ∷ 0x01 ∷ []) (movAxFrom (wordIn DS BxDi) 2 0)
+    ∷ second (0x8B ∷ 0x02 ∷ []) (movAxFrom (wordIn SS BpSi) 2 0)
+    ∷ second (0x8B ∷ 0x03 ∷ []) (movAxFrom (wordIn SS BpDi) 2 0)
+    ∷ second (0x8B ∷ 0x04 ∷ []) (movAxFrom (wordIn DS Si) 2 0)
+    ∷ second (0x8B ∷ 0x05 ∷ []) (movAxFrom (wordIn DS Di) 2 0)
+    ∷ second (0x8B ∷ 0x06 ∷ 0x34 ∷ 0x12 ∷ []) (movAxFrom (Operand.Direct DS Word 0x1234) 4 0)
+    ∷ second (0x8B ∷ 0x07 ∷ []) (movAxFrom (wordIn DS Bx) 2 0)
+    ∷ second (0x8B ∷ 0x46 ∷ 0x00 ∷ []) (movAxFrom (wordIn SS Bp) 3 0)
+    ∷ second (0x8B ∷ 0x86 ∷ 0x00 ∷ 0x80 ∷ []) (movAxFrom (Operand.Indirect SS Word Bp (Displacement.Word (negsuc 0x7FFF))) 4 0)
+    ∷ second (0x8D ∷ 0x46 ∷ 0x00 ∷ []) (Decoded (two LEA (register AlAx Word) (wordIn SS Bp)) 3 0)
+    ∷ second (0xC4 ∷ 0x46 ∷ 0x00 ∷ []) (Decoded (two LES (register AlAx Word) (wordIn SS Bp)) 3 0)
+    ∷ second (0xC5 ∷ 0x46 ∷ 0x00 ∷ []) (Decoded (two LDS (register AlAx Word) (wordIn SS Bp)) 3 0)
+    -- an override names another segment, DS too
+    ∷ second (0x26 ∷ 0x8B ∷ 0x46 ∷ 0x00 ∷ []) (movAxFrom (wordIn ES Bp) 4 1)
+    ∷ second (0x3E ∷ 0x8B ∷ 0x46 ∷ 0x00 ∷ []) (movAxFrom (wordIn DS Bp) 4 1)
+    -- D2 and D3 count in CL, D0 and D1 as in reading 1
+    ∷ second (0xD2 ∷ 0xE0 ∷ []) (Decoded (two SHL (register AlAx Byte) (register ClCx Byte)) 2 0)
+    ∷ second (0xD3 ∷ 0xE0 ∷ []) (Decoded (two SHL (register AlAx Word) (register ClCx Byte)) 2 0)
+    ∷ second (0xD1 ∷ 0xE0 ∷ []) (Decoded (two SHL (register AlAx Word) (Operand.Immediate (Immediate.Byte 1))) 2 0)
+    -- C2 carries an immediate
+    ∷ second (0xC2 ∷ 0x04 ∷ 0x00 ∷ []) (goes Near RET (Operand.Immediate (Immediate.Word 4)) 3 0)
+    ∷ second (0xCA ∷ 0x04 ∷ 0x00 ∷ []) (goes Far RET (Operand.Immediate (Immediate.Word 4)) 3 0)
+    -- ESC has the operand of its ModRM, and so an override before it
+    ∷ second (0xD8 ∷ 0x06 ∷ 0x34 ∷ 0x12 ∷ []) (escapes (Operand.Direct DS Word 0x1234) 4 0)
+    ∷ second (0xDF ∷ 0x7E ∷ 0x02 ∷ []) (escapes (Operand.Indirect SS Word Bp (Displacement.Byte (pos 2))) 3 0)
+    ∷ second (0xD9 ∷ 0xC3 ∷ []) (escapes (register BlBx Word) 2 0)
+    ∷ second (0x26 ∷ 0xD8 ∷ 0x07 ∷ []) (escapes (wordIn ES Bx) 3 1)
+    ∷ second (0x26 ∷ 0xD8 ∷ 0xC3 ∷ []) (escapes (register BlBx Word) 3 1)
+    ∷ second (0xD8 ∷ 0x06 ∷ 0x34 ∷ []) (Refused CouldNotReadExtraBytes 3 0)
+    -- the seven that keep an override, with a repeat and without
+    ∷ second (0x26 ∷ 0xA4 ∷ []) (keepsIn ES Repeated.None MOVSB 2 1)
+    ∷ second (0x2E ∷ 0xA5 ∷ []) (keepsIn CS Repeated.None MOVSW 2 1)
+    ∷ second (0x36 ∷ 0xA6 ∷ []) (keepsIn SS Repeated.None CMPSB 2 1)
+    ∷ second (0x3E ∷ 0xA7 ∷ []) (keepsIn DS Repeated.None CMPSW 2 1)
+    ∷ second (0x26 ∷ 0xAC ∷ []) (keepsIn ES Repeated.None LODSB 2 1)
+    ∷ second (0x26 ∷ 0xAD ∷ []) (keepsIn ES Repeated.None LODSW 2 1)
+    ∷ second (0x26 ∷ 0xD7 ∷ []) (keepsIn ES Repeated.None XLATB 2 1)
+    ∷ second (0xF3 ∷ 0x26 ∷ 0xA4 ∷ []) (keepsIn ES (Repeated.Some Repeat.Equal) MOVSB 3 2)
+    ∷ second (0x26 ∷ 0xF2 ∷ 0xA4 ∷ []) (keepsIn ES (Repeated.Some Repeat.NotEqual) MOVSB 3 2)
+    ∷ second (0x3E ∷ 0x26 ∷ 0xA4 ∷ []) (keepsIn DS Repeated.None MOVSB 3 2)
+    ∷ second (0xA4 ∷ []) (Decoded (none MOVSB) 1 0)
+    -- other tails with no operand refuse one
+    ∷ second (0x26 ∷ 0xAA ∷ []) (Refused (InvalidPrefix 0x26) 2 1)
+    ∷ second (0x26 ∷ 0xAB ∷ []) (Refused (InvalidPrefix 0x26) 2 1)
+    ∷ second (0x26 ∷ 0xAE ∷ []) (Refused (InvalidPrefix 0x26) 2 1)
+    ∷ second (0x26 ∷ 0x90 ∷ []) (Refused (InvalidPrefix 0x26) 2 1)
     ∷ []

@@ -1,11 +1,13 @@
 -- Section 5: the forms, and how the bytes after an opcode are read in each. A row of the opcode table is a form with its operation, size, register
 -- or segment. In a name the destination stands before the source: `rmReg` has the operand of mod and rm first.
-use Prim.Native.Nat.{ℕ, zero, suc}
+use Prim.Native.Nat.{ℕ, zero, suc, _+_}
 use mathlib.Core.Bool.{cond}
 use mathlib.Core.List.{[], _∷_}
 use lib.ListN.{getD}
 use lib.Dec.{ltb, eqb}
 use Rattle.mrc_instruction.specs.declared.errors.Refusal.{Refusal}
+use Rattle.mrc_instruction.specs.declared.reading.Reading.{Reading}
+use Rattle.mrc_instruction.specs.declared.reading.Reading.the-variants.{One, Two}
 use Rattle.mrc_instruction.specs.declared.register.RegisterEncoding.{RegisterEncoding}
 use Rattle.mrc_instruction.specs.declared.register.Segment.{Segment}
 use Rattle.mrc_instruction.specs.declared.operand.OperandSize.{OperandSize}
@@ -31,7 +33,7 @@ pub data ModRMForm : Type 0 where
   group80 group83 pop : ModRMForm
   rmSegment segmentRm : ModRMForm
   shiftByImmediate shiftByOne shiftByCl : ModRMForm
-  groupC6 groupF6 groupFE : ModRMForm
+  groupC6 groupF6 groupFE escapeRm : ModRMForm
 
 infix 70 _⦂_
 pub data Row : Type 0 where
@@ -86,8 +88,8 @@ acc size = register RegisterEncoding.AlAx size
 abbrev pub dx : Operand
 dx = register RegisterEncoding.DlDx Word
 
-abbrev pub rm : ModRM → OperandSize → Operand
-rm m size = operandOf size (m .mrrm .«register_or_memory»)
+abbrev pub rm : Reading → ModRM → OperandSize → Operand
+rm x m size = operandOf x size (m .mrrm .«register_or_memory»)
 
 abbrev pub reg : ℕ → OperandSize → Operand
 reg byte size = register (registerOf (regField byte)) size
@@ -119,56 +121,67 @@ groupF6By zero destination size = anImmediate size >>= λ i. done (two TEST dest
 groupF6By (suc zero) destination size = refuse (Refusal.InvalidOpCode 1)
 groupF6By (suc (suc n)) destination size = done (one (groupF6Operation n) destination)
 
+-- rule 5.4: 83 widens its byte with zeros, and in reading 2 by its sign
+abbrev pub widened : Reading → ℕ → ℕ
+widened One b = b
+widened Two b = cond (ltb b 0x80) b (b + 0xFF00)
+
+-- rule 5.11: D2 and D3 count in ClCx of the operand's size, and in reading 2 in CL
+abbrev pub countSize : Reading → OperandSize → OperandSize
+countSize One size = size
+countSize Two size = Byte
+
 -- a ModRM, and then what is read by the operand of a size that its mod and rm name and by its byte
-unfoldable pub withModRM : OperandSize → (Operand → ℕ → Reader Tail) → Reader Tail
-withModRM size f = aModRM >>= λ m. f (rm m size) (m .byte)
+unfoldable pub withModRM : Reading → OperandSize → (Operand → ℕ → Reader Tail) → Reader Tail
+withModRM x size f = aModRM >>= λ m. f (rm x m size) (m .byte)
 
 -- rule 5.2: what a form reads behind its ModRM
-abbrev pub behind : ModRMForm → OperandSize → Operand → ℕ → Reader Tail
-behind (rmReg op) size operand byte = done (two op operand (reg byte size))
-behind (regRm op) size operand byte = done (two op (reg byte size) operand)
-behind group80 size operand byte = anImmediate size >>= λ i. done (two (arithmetic (regField byte)) operand (Operand.Immediate i))
--- rule 5.4: 83 widens its byte with zeros
-behind group83 size operand byte = aByte >>= λ b. done (two (arithmetic (regField byte)) operand (Operand.Immediate (Immediate.Word b)))
+abbrev pub behind : Reading → ModRMForm → OperandSize → Operand → ℕ → Reader Tail
+behind x (rmReg op) size operand byte = done (two op operand (reg byte size))
+behind x (regRm op) size operand byte = done (two op (reg byte size) operand)
+behind x group80 size operand byte = anImmediate size >>= λ i. done (two (arithmetic (regField byte)) operand (Operand.Immediate i))
+behind x group83 size operand byte = aByte >>= λ b. done (two (arithmetic (regField byte)) operand (Operand.Immediate (Immediate.Word (widened x b))))
 -- rule 5.5: 8F is POP where reg is 0
-behind pop size operand byte = cond (eqb (regField byte) 0) (done (one POP operand)) (refuse (Refusal.InvalidModRegRMEncoding byte))
+behind x pop size operand byte = cond (eqb (regField byte) 0) (done (one POP operand)) (refuse (Refusal.InvalidModRegRMEncoding byte))
 -- rule 5.6: four of the eight regs name a segment
-behind rmSegment size operand byte =
+behind x rmSegment size operand byte =
     cond (ltb (regField byte) 4) (done (two MOV operand (segmentReg byte))) (refuse (Refusal.InvalidSegmentEncoding (regField byte)))
-behind segmentRm size operand byte =
+behind x segmentRm size operand byte =
     cond (ltb (regField byte) 4) (done (two MOV (segmentReg byte) operand)) (refuse (Refusal.InvalidSegmentEncoding (regField byte)))
-behind shiftByImmediate size operand byte = anImmediate Byte >>= λ i. done (two (shift (regField byte)) operand (Operand.Immediate i))
-behind shiftByOne size operand byte = done (two (shift (regField byte)) operand (Operand.Immediate (Immediate.Byte 1)))
-behind shiftByCl size operand byte = done (two (shift (regField byte)) operand (register RegisterEncoding.ClCx size))
-behind groupC6 size operand byte = anImmediate size >>= λ i. done (two MOV operand (Operand.Immediate i))
-behind groupF6 size operand byte = groupF6By (regField byte) operand size
-behind groupFE size operand byte = done (reached (groupFEReach size (regField byte)) (one (groupFEOperation (regField byte)) operand))
+behind x shiftByImmediate size operand byte = anImmediate Byte >>= λ i. done (two (shift (regField byte)) operand (Operand.Immediate i))
+behind x shiftByOne size operand byte = done (two (shift (regField byte)) operand (Operand.Immediate (Immediate.Byte 1)))
+behind x shiftByCl size operand byte = done (two (shift (regField byte)) operand (register RegisterEncoding.ClCx (countSize x size)))
+behind x groupC6 size operand byte = anImmediate size >>= λ i. done (two MOV operand (Operand.Immediate i))
+behind x groupF6 size operand byte = groupF6By (regField byte) operand size
+behind x groupFE size operand byte = done (reached (groupFEReach size (regField byte)) (one (groupFEOperation (regField byte)) operand))
+-- rule 5.12: ESC of a whole ModRM
+behind x escapeRm size operand byte = done (one ESC operand)
 
 -- rule 5.2: what follows an opcode, by its row
-abbrev pub rest : ℕ → Row → Reader Tail
-rest opcode (bare op) = done (none op)
-rest opcode prefix = refuse (Refusal.InvalidOpCode opcode)
-rest opcode invalid = refuse (Refusal.InvalidOpCode opcode)
-rest opcode (form ⦂ size) = withModRM size (behind form size)
-rest opcode (immediateToAccumulator op size) = anImmediate size >>= λ i. done (two op (acc size) (Operand.Immediate i))
-rest opcode (onSegment op s) = done (one op (Operand.Segment s))
-rest opcode (onRegister op r) = done (one op (register r Word))
-rest opcode (onDisplacement op size) = aDisplacement size >>= λ d. done (one op (Operand.Displacement d))
-rest opcode (exchange r) = done (two XCHG (acc Word) (register r Word))
+abbrev pub rest : Reading → ℕ → Row → Reader Tail
+rest x opcode (bare op) = done (none op)
+rest x opcode prefix = refuse (Refusal.InvalidOpCode opcode)
+rest x opcode invalid = refuse (Refusal.InvalidOpCode opcode)
+rest x opcode (form ⦂ size) = withModRM x size (behind x form size)
+rest x opcode (immediateToAccumulator op size) = anImmediate size >>= λ i. done (two op (acc size) (Operand.Immediate i))
+rest x opcode (onSegment op s) = done (one op (Operand.Segment s))
+rest x opcode (onRegister op r) = done (one op (register r Word))
+rest x opcode (onDisplacement op size) = aDisplacement size >>= λ d. done (one op (Operand.Displacement d))
+rest x opcode (exchange r) = done (two XCHG (acc Word) (register r Word))
 -- rule 5.2: the offset comes before the segment
-rest opcode (far op) = do
+rest x opcode (far op) = do
   offset ← aWord
   segment ← aWord
   done (one op (Operand.SegmentAndOffset (record { segment = segment; offset = offset })))
-rest opcode (accDirect size) = aWord >>= λ w. done (two MOV (acc size) (Operand.Direct Segment.DS size w))
-rest opcode (directAcc size) = aWord >>= λ w. done (two MOV (Operand.Direct Segment.DS size w) (acc size))
-rest opcode (registerAndImmediate r size) = anImmediate size >>= λ i. done (two MOV (register r size) (Operand.Immediate i))
-rest opcode (onImmediate op size) = anImmediate size >>= λ i. done (one op (Operand.Immediate i))
--- rule 5.2: ESC reads a byte and makes nothing of it
-rest opcode escape = aByte >>= λ b. done (none ESC)
-rest opcode (inPort size) = anImmediate Byte >>= λ i. done (two IN (acc size) (Operand.Immediate i))
-rest opcode (outPort size) = anImmediate Byte >>= λ i. done (two OUT (Operand.Immediate i) (acc size))
-rest opcode (inDx size) = done (two IN (acc size) dx)
-rest opcode (outDx size) = done (two OUT dx (acc size))
+rest x opcode (accDirect size) = aWord >>= λ w. done (two MOV (acc size) (Operand.Direct Segment.DS size w))
+rest x opcode (directAcc size) = aWord >>= λ w. done (two MOV (Operand.Direct Segment.DS size w) (acc size))
+rest x opcode (registerAndImmediate r size) = anImmediate size >>= λ i. done (two MOV (register r size) (Operand.Immediate i))
+rest x opcode (onImmediate op size) = anImmediate size >>= λ i. done (one op (Operand.Immediate i))
+-- rule 5.12: ESC that reads a byte and makes nothing of it
+rest x opcode escape = aByte >>= λ b. done (none ESC)
+rest x opcode (inPort size) = anImmediate Byte >>= λ i. done (two IN (acc size) (Operand.Immediate i))
+rest x opcode (outPort size) = anImmediate Byte >>= λ i. done (two OUT (Operand.Immediate i) (acc size))
+rest x opcode (inDx size) = done (two IN (acc size) dx)
+rest x opcode (outDx size) = done (two OUT dx (acc size))
 -- rule 5.10: what the row reads, with how far it goes
-rest opcode (reaching reach row) = rest opcode row >>= λ i. done (reached reach i)
+rest x opcode (reaching reach row) = rest x opcode row >>= λ i. done (reached reach i)

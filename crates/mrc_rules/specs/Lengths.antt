@@ -4,6 +4,8 @@ use mathlib.Core.Bool.{cond}
 use mathlib.Core.List.{List, [], _∷_, _++_}
 use lib.Dec.{eqb}
 use lib.ListN.{getD}
+use Rattle.mrc_instruction.specs.declared.reading.Reading.{Reading}
+use Rattle.mrc_instruction.specs.declared.reading.Reading.the-variants.{One, Two}
 use Rattle.mrc_rules.specs.Operands.{byteAt, regAt}
 
 -- what follows an opcode
@@ -52,9 +54,14 @@ t1 = tested 1
 abbrev pub t2 : Extra
 t2 = tested 2
 
+-- where the readings differ: ESC
+abbrev pub e : Reading → Extra
+e One = b1
+e Two = m
+
 -- by the first byte, eight to a line; a prefix, and a byte that begins no instruction, has nothing behind it
-unfoldable pub extras : List Extra
-extras =
+unfoldable pub extras : Reading → List Extra
+extras x =
     (m ∷ m ∷ m ∷ m ∷ b1 ∷ b2 ∷ no ∷ no ∷ [])  -- 00
     ++ (m ∷ m ∷ m ∷ m ∷ b1 ∷ b2 ∷ no ∷ no ∷ [])  -- 08
     ++ (m ∷ m ∷ m ∷ m ∷ b1 ∷ b2 ∷ no ∷ no ∷ [])  -- 10
@@ -82,7 +89,7 @@ extras =
     ++ (m1 ∷ m1 ∷ b2 ∷ no ∷ m ∷ m ∷ m1 ∷ m2 ∷ [])  -- C0
     ++ (no ∷ no ∷ b2 ∷ no ∷ no ∷ b1 ∷ no ∷ no ∷ [])  -- C8
     ++ (m ∷ m ∷ m ∷ m ∷ b1 ∷ b1 ∷ no ∷ no ∷ [])  -- D0
-    ++ (b1 ∷ b1 ∷ b1 ∷ b1 ∷ b1 ∷ b1 ∷ b1 ∷ b1 ∷ [])  -- D8
+    ++ (e x ∷ e x ∷ e x ∷ e x ∷ e x ∷ e x ∷ e x ∷ e x ∷ [])  -- D8
     ++ (b1 ∷ b1 ∷ b1 ∷ b1 ∷ b1 ∷ b1 ∷ b1 ∷ b1 ∷ [])  -- E0
     ++ (b2 ∷ b2 ∷ b4 ∷ b1 ∷ no ∷ no ∷ no ∷ no ∷ [])  -- E8
     ++ (no ∷ no ∷ no ∷ no ∷ no ∷ no ∷ t1 ∷ t2 ∷ [])  -- F0
@@ -94,5 +101,5 @@ lengthBy (fixed n) l = 1 + n
 lengthBy (modRM n) l = 2 + displacementBytes (byteAt l 1) + n
 lengthBy (tested n) l = 2 + displacementBytes (byteAt l 1) + cond (eqb (regAt l) 0) n 0
 
-abbrev pub wholeLength : List ℕ → ℕ
-wholeLength l = lengthBy (getD extras (byteAt l 0) no) l
+abbrev pub wholeLength : Reading → List ℕ → ℕ
+wholeLength x l = lengthBy (getD (extras x) (byteAt l 0) no) l

@@ -9,4 +9,5 @@ pub mod Operations
 pub mod Reaches
 pub mod Lengths
 pub mod Refusals
+pub mod Kept
 pub mod Cases

@@ -1,16 +1,22 @@
 -- Section 7: the prefix bytes, the whole run at the front, its first override and first repeat, the tail behind it, and what an override does.
 use Prim.Native.Nat.{ℕ, _/_, _%_}
-use mathlib.Core.Bool.{Bool, cond, _||_}
+use mathlib.Core.Bool.{Bool, true, false, cond, _||_, _&&_}
 use mathlib.Core.List.{List, [], _∷_}
 use mathlib.Core.Option.{Option, none, some}
 use lib.Dec.{eqb}
 use Rattle.mrc_instruction.specs.declared.errors.Refusal.{Refusal}
+use Rattle.mrc_instruction.specs.declared.reading.Reading.{Reading}
+use Rattle.mrc_instruction.specs.declared.reading.Reading.the-variants.{One, Two}
 use Rattle.mrc_instruction.specs.declared.register.Segment.{Segment}
 use Rattle.mrc_instruction.specs.declared.operand.Operand.{Operand}
 use Rattle.mrc_instruction.specs.declared.instruction.OperandSet.{OperandSet}
 use Rattle.mrc_instruction.specs.declared.instruction.Repeat.{Repeat}
 use Rattle.mrc_instruction.specs.declared.instruction.Repeated.{Repeated}
+use Rattle.mrc_instruction.specs.declared.instruction.Kept.{Kept}
 use Rattle.mrc_instruction.specs.declared.instruction.Instruction.{Instruction}
+use Rattle.mrc_instruction.specs.declared.operation.Operation.{Operation}
+use Rattle.mrc_instruction.specs.declared.operation.Operation.the-variants.{MOVSB, MOVSW, CMPSB, CMPSW, LODSB, LODSW, XLATB}
+use Rattle.mrc_instruction.specs.Operation.{operationNumber}
 use Rattle.mrc_instruction.specs.Register.{segmentOf}
 use Rattle.mrc_rules.specs.Forms.{Tail}
 
@@ -63,11 +69,31 @@ pub data Result : Type 0 where
 
 -- the tail's instruction with a repeat and operands
 abbrev pub made : Tail → Repeated → OperandSet → Instruction
-made i repeat operands = record { reach = i .reach; repeat = repeat; operation = i .operation; operands = operands }
+made i repeat operands = record { reach = i .reach; repeat = repeat; operation = i .operation; operands = operands; kept = i .kept }
 
--- the tail's instruction, which has these operands, under the override o: rules 7.6 and 7.7
-abbrev pub under : ℕ → Repeated → Tail → OperandSet → Result
-under o r i OperandSet.None = refuses (Refusal.InvalidPrefix o)
-under o r i (OperandSet.Destination d) = reads (made i r (OperandSet.Destination (inSegment (overrideSegment o) d)))
-under o r i (OperandSet.DestinationAndSource d s) =
+-- the same with a repeat and an override that it keeps
+abbrev pub keeping : Tail → Repeated → Segment → Instruction
+keeping i repeat s = record { reach = i .reach; repeat = repeat; operation = i .operation; operands = i .operands; kept = Kept.Some s }
+
+-- rule 7.11: the operations that read memory which no operand names
+abbrev pub keepers : List Operation
+keepers = MOVSB ∷ MOVSW ∷ CMPSB ∷ CMPSW ∷ LODSB ∷ LODSW ∷ XLATB ∷ []
+
+abbrev pub among : List Operation → Operation → Bool
+among [] op = false
+among (o ∷ l) op = eqb (operationNumber o) (operationNumber op) || among l op
+
+-- rule 7.11: in reading 2 they keep an override
+abbrev pub manual : Reading → Bool
+manual One = false
+manual Two = true
+
+abbrev pub keeps : Reading → Operation → Bool
+keeps x op = among keepers op && manual x
+
+-- the tail's instruction, which has these operands, under the override o: rules 7.6, 7.7 and 7.11
+abbrev pub under : Reading → ℕ → Repeated → Tail → OperandSet → Result
+under x o r i OperandSet.None = cond (keeps x (i .operation)) (reads (keeping i r (overrideSegment o))) (refuses (Refusal.InvalidPrefix o))
+under x o r i (OperandSet.Destination d) = reads (made i r (OperandSet.Destination (inSegment (overrideSegment o) d)))
+under x o r i (OperandSet.DestinationAndSource d s) =
     reads (made i r (OperandSet.DestinationAndSource (inSegment (overrideSegment o) d) (inSegment (overrideSegment o) s)))

@@ -1,11 +1,13 @@
 -- Rules 6.2 and 9.1: when a decode refuses and when it answers an instruction, with which number, byte and counts, by the bytes alone: the run of
 -- prefixes, the first byte behind it, the reg of the byte behind that, and where the input ends. A second account of refusals beside the forms.
 use Prim.Native.Nat.{ℕ, _+_, min}
-use mathlib.Core.Bool.{Bool, true, false, cond, _||_, _&&_}
+use mathlib.Core.Bool.{Bool, true, false, cond, not, _||_, _&&_}
 use mathlib.Core.List.{List, [], _∷_}
 use mathlib.Core.Option.{Option, none, some}
 use lib.Dec.{eqb, leb, ltb}
 use lib.ListN.{length, getD, drop}
+use Rattle.mrc_instruction.specs.declared.reading.Reading.{Reading}
+use Rattle.mrc_instruction.specs.declared.reading.Reading.the-variants.{One, Two}
 use Rattle.mrc_instruction.specs.Values.{Values, carrying}
 use Rattle.mrc_rules.specs.Prefixes.{isOverride, runOf, tailOf, first}
 use Rattle.mrc_rules.specs.Operands.{Places, nothing, only, _⟵_, test, places, byteAt, regAt}
@@ -40,13 +42,13 @@ byOpcode l =
     read)))
 
 -- of what is left behind the prefixes: nothing, too little, or enough
-abbrev pub verdictOf : List ℕ → Verdict
-verdictOf [] = refused 1 0
-verdictOf (opcode ∷ l) = cond (ltb (length (opcode ∷ l)) (wholeLength (opcode ∷ l))) (refused 2 0) (byOpcode (opcode ∷ l))
+abbrev pub verdictOf : Reading → List ℕ → Verdict
+verdictOf x [] = refused 1 0
+verdictOf x (opcode ∷ l) = cond (ltb (length (opcode ∷ l)) (wholeLength x (opcode ∷ l))) (refused 2 0) (byOpcode (opcode ∷ l))
 
 -- the bytes taken of it: all that the instruction has, or all that is left
-abbrev pub takenOf : List ℕ → ℕ
-takenOf l = min (wholeLength l) (length l)
+abbrev pub takenOf : Reading → List ℕ → ℕ
+takenOf x l = min (wholeLength x l) (length l)
 
 abbrev pub noPlaces : Places → Bool
 noPlaces nothing = true
@@ -54,11 +56,16 @@ noPlaces (only destination) = false
 noPlaces (destination ⟵ source) = false
 noPlaces (test destination source) = false
 
--- the opcode has no operands
-abbrev pub isBare : ℕ → Bool
-isBare opcode = noPlaces (getD places opcode nothing)
+-- the opcode keeps an override: A4 to A7, AC, AD and D7 in reading 2
+abbrev pub keepsAt : Reading → ℕ → Bool
+keepsAt One opcode = false
+keepsAt Two opcode = (leb 0xA4 opcode && leb opcode 0xA7) || eqb opcode 0xAC || eqb opcode 0xAD || eqb opcode 0xD7
 
--- behind p prefixes, under the first override, if any: number 9 with the override where the tail is refused or has no operands
+-- the opcode has no operands, and keeps no override
+abbrev pub isBare : Reading → ℕ → Bool
+isBare x opcode = noPlaces (getD (places x) opcode nothing) && not (keepsAt x opcode)
+
+-- behind p prefixes, under the first override, if any: number 9 with the override where the tail is refused or is bare
 abbrev pub underPrefixes : Option ℕ → Verdict → Bool → ℕ → ℕ → Values
 underPrefixes none read bare n p = carrying 0 0 (p + n) p
 underPrefixes none (refused number byte) bare n p = carrying number byte (p + n) p
@@ -66,10 +73,10 @@ underPrefixes (some o) read bare n p = cond bare (carrying 9 o (p + n) p) (carry
 underPrefixes (some o) (refused number byte) bare n p = carrying 9 o (p + n) p
 
 -- at a position, under a budget: 11 first, then 10, then as the bytes are read
-abbrev pub tabled : List ℕ → ℕ → ℕ → Values
-tabled s at b =
+abbrev pub tabled : Reading → List ℕ → ℕ → ℕ → Values
+tabled x s at b =
     let run = runOf (drop at s) in
     let l = tailOf (drop at s) in
     cond (ltb (length s) at) (carrying 11 0 0 0)
     (cond (ltb b (length run)) (carrying 10 (getD run b 0) (b + 1) (b + 1))
-    (underPrefixes (first isOverride run) (verdictOf l) (isBare (byteAt l 0)) (takenOf l) (length run)))
+    (underPrefixes (first isOverride run) (verdictOf x l) (isBare x (byteAt l 0)) (takenOf x l) (length run)))

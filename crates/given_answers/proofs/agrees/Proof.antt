@@ -1,4 +1,4 @@
--- Positions stay below 460,600, and an input has at most as many bytes as its buffer.
+-- Positions stay below 560,600, and an input has at most as many bytes as its buffer.
 -- Assumes nothing.
 use mathlib.Core.Path.{sym}
 use lib.Seq.{length-take-le}
@@ -15,17 +15,23 @@ add-hex-at c = search needs
 hex-at-requires-2 : tie.Need-hex-at-requires-2
 hex-at-requires-2 c κs = search needs
 
+add-hex-at-2 : tie.Need-add-hex-at-2
+add-hex-at-2 c = search needs
+
+hex-at-requires-3 : tie.Need-hex-at-requires-3
+hex-at-requires-3 c κs = search needs
+
 cast-at : tie.Need-cast-at
 cast-at c = search needs
 
 mul-at : tie.Need-mul-at
 mul-at c = search needs
 
-add-hex-at-2 : tie.Need-add-hex-at-2
-add-hex-at-2 c = search needs
+add-hex-at-3 : tie.Need-add-hex-at-3
+add-hex-at-3 c = search needs
 
-hex-at-requires-3 : tie.Need-hex-at-requires-3
-hex-at-requires-3 c κs = search needs
+hex-at-requires-4 : tie.Need-hex-at-requires-4
+hex-at-requires-4 c κs = search needs
 
 cast-at-2 : tie.Need-cast-at-2
 cast-at-2 c = search needs
@@ -67,10 +73,12 @@ agrees-spec =
     hex-at-requires
     add-hex-at
     hex-at-requires-2
-    cast-at
-    mul-at
     add-hex-at-2
     hex-at-requires-3
+    cast-at
+    mul-at
+    add-hex-at-3
+    hex-at-requires-4
     cast-at-2
     add-at
     add-read-input

@@ -8,7 +8,7 @@ use Rattle.given_answers.proofs.read_input.Statement.{statement}
 use Rattle.given_answers.proofs.read_input.Tie as tie
 
 abbrev Inv-loop : tie.InvT-loop
-Inv-loop s from end input₀ n₀ at₀ input n at = (n ≤ length input₀) × (length input ≡ length input₀) × (at ≤ 460200)
+Inv-loop s from end input₀ n₀ at₀ input n at = (n ≤ length input₀) × (length input ≡ length input₀) × (at ≤ 560200)
 
 abbrev μ-loop : tie.MeasureT-loop
 μ-loop s from end input₀ n₀ at₀ input n at = length input₀ - n

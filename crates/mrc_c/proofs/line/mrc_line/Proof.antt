@@ -7,6 +7,9 @@ use borrow.Author.Needs.{needs}
 use Rattle.mrc_c.proofs.line.mrc_line.Statement.{statement}
 use Rattle.mrc_c.proofs.line.mrc_line.Tie as tie
 
+reading-of-requires : tie.Need-reading-of-requires
+reading-of-requires c κs = tt
+
 line-requires : tie.Need-line-requires
 line-requires c κs = tt
 
@@ -37,8 +40,9 @@ same-length c = search needs
 returns : tie.Need-returns
 returns c =
     let l = c .before .before .before .before .before .line .ensures in
-    let a = c .before .before .before .before .before .before .before .before .before .args in
-    record { answer = line-whole (a .image .now) (a .at) (length (a .out .now)) _ _ (sym (c .before .len .given .1) ∙ l .answer); buffer = l .bytes }
+    let a = c .before .before .before .before .before .before .before .before .before .before .args in
+    rw (← c .before .before .before .before .before .before .before .reading-of .ensures)
+    record { answer = line-whole _ (a .image .now) (a .at) (length (a .out .now)) _ _ (sym (c .before .len .given .1) ∙ l .answer); buffer = l .bytes }
 
 same-length-2 : tie.Need-same-length-2
 same-length-2 c = search needs
@@ -46,9 +50,10 @@ same-length-2 c = search needs
 returns-2 : tie.Need-returns-2
 returns-2 c =
     let l = c .before .before .before .before .before .before .line .ensures in
-    let a = c .before .before .before .before .before .before .before .before .before .before .args in
+    let a = c .before .before .before .before .before .before .before .before .before .before .before .args in
+    rw (← c .before .before .before .before .before .before .before .before .reading-of .ensures)
     record {
-      answer = rw (c .number .ensures) (refusal-whole (a .image .now) (a .at) (length (a .out .now)) _ (sym (c .before .before .refusal .given .1) ∙ l .answer));
+      answer = rw (c .number .ensures) (refusal-whole _ (a .image .now) (a .at) (length (a .out .now)) _ (sym (c .before .before .refusal .given .1) ∙ l .answer));
       buffer = l .bytes;
     }
 
@@ -56,6 +61,7 @@ pub mrc-line-spec : {M : Type 1} → statement M
 mrc-line-spec =
     tie.close
     (tie.spec
+    reading-of-requires
     line-requires
     enum-known-len
     mul-result

@@ -20,6 +20,9 @@ repeat-code-requires c κs = tt
 reach-code-requires : tie.Need-reach-code-requires
 reach-code-requires c κs = tt
 
+kept-code-requires : tie.Need-kept-code-requires
+kept-code-requires c κs = tt
+
 enum-told : tie.Need-enum-told
 enum-told c = search needs
 
@@ -27,7 +30,7 @@ body-word-requires : tie.Need-body-word-requires
 body-word-requires c κs = tt
 
 returns : tie.Need-returns
-returns c = rw (c .before .before .before .before .before .before .before .before .answer .given .1, c .before .enum-told .given .1, ← c .before .before .before .before .before .number .ensures, ← c .before .before .before .before .repeat-code .ensures, ← c .before .before .before .reach-code .ensures) (written _ (c .before .before .before .before .before .before .head-word .ensures) (c .body-word .ensures) no-operand no-operand no-operand)
+returns c = rw (c .before .before .before .before .before .before .before .before .before .answer .given .1, c .before .enum-told .given .1, ← c .before .before .before .before .before .before .number .ensures, ← c .before .before .before .before .before .repeat-code .ensures, ← c .before .before .before .before .reach-code .ensures, ← c .before .before .before .kept-code .ensures) (written _ (c .before .before .before .before .before .before .before .head-word .ensures) (c .body-word .ensures) no-operand no-operand no-operand)
 
 enum-known-operands : tie.Need-enum-known-operands
 enum-known-operands c = search needs
@@ -39,7 +42,7 @@ operand-word-requires : tie.Need-operand-word-requires
 operand-word-requires c κs = tt
 
 returns-2 : tie.Need-returns-2
-returns-2 c = rw (c .before .before .before .before .before .before .before .before .before .before .answer .given .1, c .before .before .before .operands .given .1, ← c .before .before .before .before .before .before .before .number .ensures, ← c .before .before .before .before .before .before .repeat-code .ensures, ← c .before .before .before .before .before .reach-code .ensures) (written _ (c .before .before .before .before .before .before .before .before .head-word .ensures) (c .before .body-word2 .ensures) (c .operand-word .ensures) no-operand no-operand)
+returns-2 c = rw (c .before .before .before .before .before .before .before .before .before .before .before .answer .given .1, c .before .before .before .operands .given .1, ← c .before .before .before .before .before .before .before .before .number .ensures, ← c .before .before .before .before .before .before .before .repeat-code .ensures, ← c .before .before .before .before .before .before .reach-code .ensures, ← c .before .before .before .before .before .kept-code .ensures) (written _ (c .before .before .before .before .before .before .before .before .before .head-word .ensures) (c .before .body-word2 .ensures) (c .operand-word .ensures) no-operand no-operand)
 
 enum-known-operands-2 : tie.Need-enum-known-operands-2
 enum-known-operands-2 c = search needs
@@ -54,7 +57,7 @@ operand-word-requires-3 : tie.Need-operand-word-requires-3
 operand-word-requires-3 c κs = tt
 
 returns-3 : tie.Need-returns-3
-returns-3 c = rw (c .before .before .before .before .before .before .before .before .before .before .before .answer .given .1, c .before .before .before .before .operands2 .given .1, ← c .before .before .before .before .before .before .before .before .number .ensures, ← c .before .before .before .before .before .before .before .repeat-code .ensures, ← c .before .before .before .before .before .before .reach-code .ensures) (written _ (c .before .before .before .before .before .before .before .before .before .head-word .ensures) (c .before .before .body-word3 .ensures) (c .before .operand-word2 .ensures) (c .operand-word3 .ensures) no-operand)
+returns-3 c = rw (c .before .before .before .before .before .before .before .before .before .before .before .before .answer .given .1, c .before .before .before .before .operands2 .given .1, ← c .before .before .before .before .before .before .before .before .before .number .ensures, ← c .before .before .before .before .before .before .before .before .repeat-code .ensures, ← c .before .before .before .before .before .before .before .reach-code .ensures, ← c .before .before .before .before .before .before .kept-code .ensures) (written _ (c .before .before .before .before .before .before .before .before .before .before .head-word .ensures) (c .before .before .body-word3 .ensures) (c .before .operand-word2 .ensures) (c .operand-word3 .ensures) no-operand)
 
 enum-known-answer-2 : tie.Need-enum-known-answer-2
 enum-known-answer-2 c = search needs
@@ -80,6 +83,7 @@ record-of-spec =
     number-requires
     repeat-code-requires
     reach-code-requires
+    kept-code-requires
     enum-told
     body-word-requires
     returns

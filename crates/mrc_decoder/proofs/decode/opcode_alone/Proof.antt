@@ -2,6 +2,7 @@
 -- Assumes nothing.
 use mathlib.Core.Path.{ap, _∙_}
 use mathlib.Core.List.{[]}
+use Rattle.mrc_instruction.specs.declared.reading.Reading.the-variants.{One}
 use Rattle.mrc_instruction.specs.declared.operation.Operation.the-variants.{RET}
 use Rattle.mrc_forms.specs.Answers.{reachedAnswer}
 use Rattle.mrc_decoder.proofs.Reaching.{bare-reached}
@@ -28,7 +29,7 @@ reaching-requires : tie.Need-reaching-requires
 reaching-requires c κs = search needs
 
 returns-2 : tie.Need-returns-2
-returns-2 c = rw (c .before .before .before .form2 .given .1) (c .reaching .ensures ∙ ap (reachedAnswer (c .before .before .before .form2 .given .0 .0)) (c .before .bare2 .ensures) ∙ bare-reached RET (c .before .before .before .before .before .args .opcode) (c .before .before .before .before .before .args .at) [] (c .before .before .before .form2 .given .0 .0))
+returns-2 c = rw (c .before .before .before .form2 .given .1) (c .reaching .ensures ∙ ap (reachedAnswer (c .before .before .before .form2 .given .0 .0)) (c .before .bare2 .ensures) ∙ bare-reached One RET (c .before .before .before .before .before .args .opcode) (c .before .before .before .before .before .args .at) [] (c .before .before .before .form2 .given .0 .0))
 
 enum-known-form-3 : tie.Need-enum-known-form-3
 enum-known-form-3 c = search needs

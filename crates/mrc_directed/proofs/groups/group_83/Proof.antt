@@ -37,8 +37,8 @@ returns c = rw (c .decoded .ensures, c .before .before .before .widened .ensures
 enum-known-e : tie.Need-enum-known-e
 enum-known-e c = search needs
 
-add-t17 : tie.Need-add-t17
-add-t17 c = omega (arith, took aByte (c .before .before .before .before .before .args .s .now) (c .before .before .before .before .before .args .at) (byte-is (sym (c .before .e .given .1) ∙ c .before .before .before .read-u8 .ensures)))
+add-t18 : tie.Need-add-t18
+add-t18 c = omega (arith, took aByte (c .before .before .before .before .before .args .s .now) (c .before .before .before .before .before .args .at) (byte-is (sym (c .before .e .given .1) ∙ c .before .before .before .read-u8 .ensures)))
 
 returns-2 : tie.Need-returns-2
 returns-2 c = ap (formRead (c .before .before .before .before .before .args .at)) (stop-at aByte _ (c .before .before .before .before .before .args .s .now) (c .before .before .before .before .before .args .at) (byte-is (sym (c .before .e .given .1) ∙ c .before .before .before .read-u8 .ensures)))
@@ -56,5 +56,5 @@ group-83-spec =
     decoded-requires
     returns
     enum-known-e
-    add-t17
+    add-t18
     returns-2)

@@ -9,17 +9,17 @@ use Rattle.mrc_line.proofs.line.line.Tie as tie
 returns : tie.Need-returns
 returns c =
     let a = c .before .before .before .args in
-    refused (a .image .now) (a .at) (a .out .now) Refusal.ImageTooLong (too-long (a .image .now) (a .at) (a .out .now) (c .if1 .taken))
+    refused (a .reading) (a .image .now) (a .at) (a .out .now) Refusal.ImageTooLong (too-long (a .reading) (a .image .now) (a .at) (a .out .now) (c .if1 .taken))
 
 returns-2 : tie.Need-returns-2
 returns-2 c =
     let a = c .before .before .before .before .args in
-    refused (a .image .now) (a .at) (a .out .now) Refusal.OutsideInput (outside (a .image .now) (a .at) (a .out .now) (c .before .if1 .left) (c .if2 .taken))
+    refused (a .reading) (a .image .now) (a .at) (a .out .now) Refusal.OutsideInput (outside (a .reading) (a .image .now) (a .at) (a .out .now) (c .before .if1 .left) (c .if2 .taken))
 
 returns-3 : tie.Need-returns-3
 returns-3 c =
     let a = c .before .before .before .before .before .args in
-    refused (a .image .now) (a .at) (a .out .now) Refusal.EndOfInput (at-end (a .image .now) (a .at) (a .out .now) (c .before .before .if1 .left) (c .if3 .taken))
+    refused (a .reading) (a .image .now) (a .at) (a .out .now) Refusal.EndOfInput (at-end (a .reading) (a .image .now) (a .at) (a .out .now) (c .before .before .if1 .left) (c .if3 .taken))
 
 table-requires : tie.Need-table-requires
 table-requires c κs = search needs

@@ -26,8 +26,8 @@ enum-known-operands-2 c = search needs
 put-byte-requires-2 : tie.Need-put-byte-requires-2
 put-byte-requires-2 c κs = search needs
 
-put-operand-requires : tie.Need-put-operand-requires
-put-operand-requires c κs = search needs
+put-beside-requires : tie.Need-put-beside-requires
+put-beside-requires c κs = search needs
 
 slice-aggregate-put-bytes : tie.Need-slice-aggregate-put-bytes
 slice-aggregate-put-bytes c = search needs
@@ -35,8 +35,8 @@ slice-aggregate-put-bytes c = search needs
 put-bytes-requires : tie.Need-put-bytes-requires
 put-bytes-requires c κs = search needs
 
-put-operand-requires-2 : tie.Need-put-operand-requires-2
-put-operand-requires-2 c κs = search needs
+put-beside-requires-2 : tie.Need-put-beside-requires-2
+put-beside-requires-2 c κs = search needs
 
 returns : tie.Need-returns
 returns c = gives (omega arith) (sym (ap (operandsText (c .before .before .before .args .operation) (c .before .before .before .args .start) (c .before .before .before .args .taken)) (c .enum-told .given .1))) (none (c .before .before .before .args .buf .now) (c .before .before .before .args .at))
@@ -53,7 +53,7 @@ same-length-2 c = search needs
 returns-3 : tie.Need-returns-3
 returns-3 c =
     gives (omega arith) (sym (ap (operandsText (c .before .before .before .before .before .before .before .before .before .before .before .before .before .before .before .before .before .before .before .before .before .args .operation) (c .before .before .before .before .before .before .before .before .before .before .before .before .before .before .before .before .before .before .before .before .before .args .start) (c .before .before .before .before .before .before .before .before .before .before .before .before .before .before .before .before .before .before .before .before .before .args .taken)) (c .before .before .before .before .before .before .before .before .before .before .before .before .before .before .before .before .before .before .operands2 .given .1)))
-    (then (c .before .before .before .before .before .before .before .before .before .before .before .before .before .before .before .put-byte2 .ensures) (then (c .before .before .before .before .before .before .before .before .before .before .before .put-operand .ensures) (then (c .before .before .before .before .before .before .put-bytes .ensures) (c .before .before .put-operand2 .ensures))))
+    (then (c .before .before .before .before .before .before .before .before .before .before .before .before .before .before .before .put-byte2 .ensures) (then (c .before .before .before .before .before .before .before .before .before .before .before .put-beside .ensures) (then (c .before .before .before .before .before .before .put-bytes .ensures) (c .before .before .put-beside2 .ensures))))
 
 pub put-operands-spec : {M : Type 1} → statement M
 put-operands-spec =
@@ -65,10 +65,10 @@ put-operands-spec =
     put-alone-requires
     enum-known-operands-2
     put-byte-requires-2
-    put-operand-requires
+    put-beside-requires
     slice-aggregate-put-bytes
     put-bytes-requires
-    put-operand-requires-2
+    put-beside-requires-2
     returns
     same-length
     returns-2

@@ -12,25 +12,25 @@ use Rattle.mrc_line.proofs.page.write_page.Statement.{statement}
 use Rattle.mrc_line.proofs.page.write_page.Tie as tie
 
 abbrev Inv-loop : tie.InvT-loop
-Inv-loop image at out₀ names len₀ next₀ out len next = Paging image at out₀ out len next
+Inv-loop image at reading out₀ names len₀ next₀ out len next = Paging reading image at out₀ out len next
 
 abbrev μ-loop : tie.MeasureT-loop
-μ-loop image at out₀ names len₀ next₀ out len next = length image - next
+μ-loop image at reading out₀ names len₀ next₀ out len next = length image - next
 
 -- in the arm of a line: what the answer tells of it
 turn :
     (c : tie.After-known-told Inv-loop μ-loop) →
-    Told (c .before .before .before .before .before .before .before .before .before .before .before .before .before .before .args .image .now) (c .before .before .before .before .before .before .before .before .before .loop .next) (length (c .before .before .before .before .before .before .before .before .before .before .before .before .before .before .args .out .now) - c .before .before .before .before .before .before .before .before .before .loop .len) (c .before .more .given .0 .0) (c .before .more .given .0 .1 .0)
-turn c = tells (c .before .before .before .before .before .before .before .before .before .loop .inv) (c .before .before .before .before .before .write-line .result) (c .before .before .before .before .before .write-line .last .0) (c .before .before .before .before .before .write-line .ensures) (c .before .more .given .0 .0) (c .before .more .given .0 .1 .0) (c .before .more .given .1)
+    Told (c .before .before .before .before .before .before .before .before .before .before .before .before .before .before .args .reading) (c .before .before .before .before .before .before .before .before .before .before .before .before .before .before .args .image .now) (c .before .before .before .before .before .before .before .before .before .loop .next) (length (c .before .before .before .before .before .before .before .before .before .before .before .before .before .before .args .out .now) - c .before .before .before .before .before .before .before .before .before .loop .len) (c .before .more .given .0 .0) (c .before .more .given .0 .1 .0)
+turn c = tells _ (c .before .before .before .before .before .before .before .before .before .loop .inv) (c .before .before .before .before .before .write-line .result) (c .before .before .before .before .before .write-line .last .0) (c .before .before .before .before .before .write-line .ensures) (c .before .more .given .0 .0) (c .before .more .given .0 .1 .0) (c .before .more .given .1)
 
 returns : tie.Need-returns Inv-loop μ-loop
-returns c = page-too-long _ _ _ (c .if1 .taken)
+returns c = page-too-long _ _ _ _ (c .if1 .taken)
 
 table-requires : tie.Need-table-requires Inv-loop μ-loop
 table-requires c κs = tt
 
 loop-holds : tie.Need-loop-holds Inv-loop μ-loop
-loop-holds c = begins _ _ _
+loop-holds c = begins _ _ _ _
 
 sub-write-line : tie.Need-sub-write-line Inv-loop μ-loop
 sub-write-line c = c .before .loop .inv .inside
@@ -55,32 +55,32 @@ add-len c =
 add-next : tie.Need-add-next Inv-loop μ-loop
 add-next c =
     let t = turn c in
-    let k = line-takes (c .before .before .before .before .before .before .before .before .before .before .before .before .before .before .args .image .now) (c .before .before .before .before .before .before .before .before .before .loop .next) (c .before .before .before .before .before .before .before .before .loop-test .taken) in
+    let k = line-takes (c .before .before .before .before .before .before .before .before .before .before .before .before .before .before .args .reading) (c .before .before .before .before .before .before .before .before .before .before .before .before .before .before .args .image .now) (c .before .before .before .before .before .before .before .before .before .loop .next) (c .before .before .before .before .before .before .before .before .loop-test .taken) in
     omega (arith, t .taken-is, k .inside)
 
 loop-less : tie.Need-loop-less Inv-loop μ-loop
 loop-less c =
     let t = turn c in
-    let k = line-takes (c .before .before .before .before .before .before .before .before .before .before .before .before .before .before .args .image .now) (c .before .before .before .before .before .before .before .before .before .loop .next) (c .before .before .before .before .before .before .before .before .loop-test .taken) in
+    let k = line-takes (c .before .before .before .before .before .before .before .before .before .before .before .before .before .before .args .reading) (c .before .before .before .before .before .before .before .before .before .before .before .before .before .before .args .image .now) (c .before .before .before .before .before .before .before .before .before .loop .next) (c .before .before .before .before .before .before .before .before .loop-test .taken) in
     omega (arith, t .taken-is, k .some)
 
 loop-again : tie.Need-loop-again Inv-loop μ-loop
-loop-again c = goes-on (c .before .before .before .before .before .before .before .before .before .loop .inv) (c .before .before .before .before .before .write-line .result) (c .before .before .before .before .before .write-line .last .0) (c .before .before .before .before .before .write-line .ensures) (c .before .more .given .0 .0) (c .before .more .given .0 .1 .0) (c .before .more .given .1) (c .before .before .before .before .before .write-line .kept .0) (c .before .before .before .before .before .before .before .before .loop-test .taken)
+loop-again c = goes-on _ (c .before .before .before .before .before .before .before .before .before .loop .inv) (c .before .before .before .before .before .write-line .result) (c .before .before .before .before .before .write-line .last .0) (c .before .before .before .before .before .write-line .ensures) (c .before .more .given .0 .0) (c .before .more .given .0 .1 .0) (c .before .more .given .1) (c .before .before .before .before .before .write-line .kept .0) (c .before .before .before .before .before .before .before .before .loop-test .taken)
 
 enum-told : tie.Need-enum-told Inv-loop μ-loop
 enum-told c = search needs
 
 same-length : tie.Need-same-length Inv-loop μ-loop
-same-length c = ap length (as-it-was (c .before .before .before .before .before .before .before .before .loop .inv) (c .before .before .before .before .write-line .result) (c .before .before .before .before .write-line .last .0) (c .before .before .before .before .write-line .ensures) (c .enum-told .given .0 .0) (c .enum-told .given .1)) ∙ c .before .before .before .before .before .before .before .before .loop .inv .long
+same-length c = ap length (as-it-was _ (c .before .before .before .before .before .before .before .before .loop .inv) (c .before .before .before .before .write-line .result) (c .before .before .before .before .write-line .last .0) (c .before .before .before .before .write-line .ensures) (c .enum-told .given .0 .0) (c .enum-told .given .1)) ∙ c .before .before .before .before .before .before .before .before .loop .inv .long
 
 returns-2 : tie.Need-returns-2 Inv-loop μ-loop
-returns-2 c = ends-refused (c .before .before .before .before .before .before .before .before .before .before .if1 .left) (c .before .before .before .before .before .before .before .before .loop .inv) (c .before .before .before .before .before .before .before .loop-test .taken) (c .before .before .before .before .write-line .result) (c .before .before .before .before .write-line .last .0) (c .before .before .before .before .write-line .ensures) (c .enum-told .given .0 .0) (c .enum-told .given .1)
+returns-2 c = ends-refused _ (c .before .before .before .before .before .before .before .before .before .before .if1 .left) (c .before .before .before .before .before .before .before .before .loop .inv) (c .before .before .before .before .before .before .before .loop-test .taken) (c .before .before .before .before .write-line .result) (c .before .before .before .before .write-line .last .0) (c .before .before .before .before .write-line .ensures) (c .enum-told .given .0 .0) (c .enum-told .given .1)
 
 same-length-2 : tie.Need-same-length-2 Inv-loop μ-loop
 same-length-2 c = c .before .loop .inv .long
 
 returns-3 : tie.Need-returns-3 Inv-loop μ-loop
-returns-3 c = ends-past (c .before .before .before .if1 .left) (c .before .loop .inv) (c .loop-test .left)
+returns-3 c = ends-past _ (c .before .before .before .if1 .left) (c .before .loop .inv) (c .loop-test .left)
 
 pub write-page-spec : {M : Type 1} → statement M
 write-page-spec =

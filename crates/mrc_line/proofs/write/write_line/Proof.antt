@@ -28,7 +28,7 @@ decode-instruction-requires c κs = search needs
 put-step-requires : tie.Need-put-step-requires
 put-step-requires c κs =
     let s = c .before .before .before .before .before in
-    let t = takes (s .args .image .now) (s .args .at) (c .before .before .decode-instruction .ensures) (s .pre .2) in
+    let t = takes (s .args .reading) (s .args .image .now) (s .args .at) (c .before .before .decode-instruction .ensures) (s .pre .2) in
     (c .before .if1 .taken, s .pre .0, omega arith, t .some, omega (arith, t .few), t .inside)
 
 same-length : tie.Need-same-length
@@ -37,11 +37,12 @@ same-length c = search needs
 returns : tie.Need-returns
 returns c =
     let s = c .before .before .before .before .before .before .before .before in
+    let x = s .args .reading in
     let image = s .args .image .now in
     let at = s .args .at in
     let w = c .before .before .put-step in
     let d = c .before .before .before .before .before .decode-instruction .ensures in
-    written image at (s .args .out .now) (s .pre .1) (s .pre .2) (w .result .end) (w .result .end) (w .result .taken) (same (text-is image at d) (w .ensures .0)) (omega (arith, line-longest image at, c .before .before .before .before .if1 .taken)) refl (w .ensures .1 ∙ taken-is image at d)
+    written x image at (s .args .out .now) (s .pre .1) (s .pre .2) (w .result .end) (w .result .end) (w .result .taken) (same (text-is x image at d) (w .ensures .0)) (omega (arith, line-longest x image at, c .before .before .before .before .if1 .taken)) refl (w .ensures .1 ∙ taken-is x image at d)
 
 slice-aggregate-put-step : tie.Need-slice-aggregate-put-step
 slice-aggregate-put-step c = search needs
@@ -49,7 +50,7 @@ slice-aggregate-put-step c = search needs
 put-step-requires-2 : tie.Need-put-step-requires-2
 put-step-requires-2 c κs =
     let s = c .before .before .before .before .before in
-    let t = takes (s .args .image .now) (s .args .at) (c .before .before .decode-instruction .ensures) (s .pre .2) in
+    let t = takes (s .args .reading) (s .args .image .now) (s .args .at) (c .before .before .decode-instruction .ensures) (s .pre .2) in
     (omega arith, s .pre .0, omega arith, t .some, omega (arith, t .few), t .inside)
 
 array-share-prefix-buf : tie.Need-array-share-prefix-buf
@@ -67,11 +68,12 @@ same-length-2 c = search needs
 returns-2 : tie.Need-returns-2
 returns-2 c =
     let s = c .before .before .before .before .before .before .before .before .before .before .before .before .before .before in
+    let x = s .args .reading in
     let image = s .args .image .now in
     let at = s .args .at in
-    let p = same (text-is image at (c .before .before .before .before .before .before .before .before .before .before .before .decode-instruction .ensures)) (c .before .before .before .before .before .before .before .before .put-step2 .ensures .0) in
+    let p = same (text-is x image at (c .before .before .before .before .before .before .before .before .before .before .before .decode-instruction .ensures)) (c .before .before .before .before .before .before .before .before .put-step2 .ensures .0) in
     ⊎-elim
-    (λ w. rw (kept (c .before .before .before .put-bytes .ensures) (copied (c .before .before .before .before .before) ∙ w .1)) (refused image at (s .args .out .now) Refusal.NoRoom (no-room image at (s .args .out .now) (s .pre .1) (s .pre .2) (omega (arith, p .end)))))
+    (λ w. rw (kept (c .before .before .before .put-bytes .ensures) (copied (c .before .before .before .before .before) ∙ w .1)) (refused x image at (s .args .out .now) Refusal.NoRoom (no-room x image at (s .args .out .now) (s .pre .1) (s .pre .2) (omega (arith, p .end)))))
     (λ w. absurd (omega arith))
     (c .before .before .before .before .before .before .if2 .came)
 
@@ -81,16 +83,17 @@ same-length-3 c = search needs
 returns-3 : tie.Need-returns-3
 returns-3 c =
     let s = c .before .before .before .before .before .before .before .before .before .before .before .before .before .before in
+    let x = s .args .reading in
     let image = s .args .image .now in
     let at = s .args .at in
     let w = c .before .before .before .before .before .before .before .before .put-step2 in
     let d = c .before .before .before .before .before .before .before .before .before .before .before .decode-instruction .ensures in
-    let p = same (text-is image at d) (w .ensures .0) in
+    let p = same (text-is x image at d) (w .ensures .0) in
     let l = copied (c .before .before .before .before .before) in
     let q = c .before .before .before .put-bytes .ensures in
     ⊎-elim
     (λ a. absurd (omega arith))
-    (λ a. written image at (s .args .out .now) (s .pre .1) (s .pre .2) (c .before .before .before .put-bytes .result) (w .result .end) (w .result .taken) (same (ap (λ (n : ℕ). take n (w .last .0)) (a .1) ∙ p .text) q) (omega (arith, p .end)) (omega (arith, l, q .end)) (w .ensures .1 ∙ taken-is image at d))
+    (λ a. written x image at (s .args .out .now) (s .pre .1) (s .pre .2) (c .before .before .before .put-bytes .result) (w .result .end) (w .result .taken) (same (ap (λ (n : ℕ). take n (w .last .0)) (a .1) ∙ p .text) q) (omega (arith, p .end)) (omega (arith, l, q .end)) (w .ensures .1 ∙ taken-is x image at d))
     (c .before .before .before .before .before .before .if2 .came)
 
 pub write-line-spec : {M : Type 1} → statement M

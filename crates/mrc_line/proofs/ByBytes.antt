@@ -1,0 +1,36 @@
+-- A line has a kept override and FAR where the bytes say so: the override that an instruction keeps and how far it goes are what specs/Kept and
+-- specs/Reaches of mrc_rules find by the prefixes, the first byte behind them and reg.
+-- Assumes nothing.
+use mathlib.Core.Path.{_≡_, ap, _∙_}
+use mathlib.Core.List.{List, _++_}
+use Prim.Native.Nat.{ℕ}
+use lib.ListN.{take, drop}
+use Rattle.mrc_instruction.specs.declared.reading.Reading.{Reading}
+use Rattle.mrc_instruction.specs.declared.instruction.Kept.{Kept}
+use Rattle.mrc_instruction.specs.declared.instruction.Reach.{Reach}
+use Rattle.mrc_instruction.specs.declared.instruction.Instruction.{Instruction}
+use Rattle.mrc_instruction.specs.Reader.{Bytes}
+use Rattle.mrc_names.specs.Names.{nameOf}
+use Rattle.mrc_rules.specs.declared.Answer.{Answer}
+use Rattle.mrc_rules.specs.Prefixes.{isOverride, runOf, tailOf, first}
+use Rattle.mrc_rules.specs.Decode.{decodeAt}
+use Rattle.mrc_rules.specs.Operands.{byteAt}
+use Rattle.mrc_rules.specs.Reaches.{reachOf}
+use Rattle.mrc_rules.specs.Kept.{keptOf}
+use Rattle.mrc_rules.proofs.Operands.{near-or-far, override-kept}
+use Rattle.mrc_line.specs.Operands.{operandsText}
+use Rattle.mrc_line.specs.Line.{headText, repeatText, keptText, reachText, instructionText, stepText, lineText, lineEnd, budget}
+
+-- the line of an instruction, by the override that is kept and by a reach
+abbrev pub textBy : List ℕ → ℕ → Instruction → ℕ → Kept → Reach → List ℕ
+textBy s at i n kept reach =
+    headText at (take n (drop at s))
+    ++ ((repeatText (i .repeat) ++ (keptText kept ++ (nameOf (i .operation) ++ (reachText reach ++ operandsText (i .operation) at n (i .operands))))) ++ lineEnd)
+
+pub by-the-bytes : (x : Reading) (s : List ℕ) (at : ℕ) (i : Instruction) (n p : ℕ) → Bytes s → decodeAt x s at budget ≡ Answer.Decoded i n p
+    → lineText x s at
+    ≡ textBy s at i n (keptOf x (first isOverride (runOf (drop at s))) (byteAt (tailOf (drop at s)) 0)) (reachOf (tailOf (drop at s)))
+unfolding lineText stepText instructionText
+by-the-bytes x s at i n p bytes e =
+    ap (stepText s at) e ∙ ap (textBy s at i n (i .kept)) (near-or-far x s at budget i n p e)
+    ∙ ap (λ k. textBy s at i n k (reachOf (tailOf (drop at s)))) (override-kept x s at budget i n p bytes e)
