@@ -1,8 +1,8 @@
 /* The proved 8086 decoder and lister, from C on x86-64. Link libmrc_c.a, which `rt staticlib mrc_c` writes.
  *
- * Every call answers for every input: no position, budget, field or length is forbidden. The caller owns each buffer and record,
- * lends it for the call alone, and what is written to overlaps nothing else that is lent. A pointer whose length is 0 is not followed.
- * Nothing is allocated and nothing is kept between calls, so calls may run at the same time. */
+ * Every call answers for every input: no position, budget, reading, field or length is forbidden. The caller owns each buffer and
+ * record, lends it for the call alone, and what is written to overlaps nothing else that is lent. A pointer whose length is 0 is not
+ * followed. Nothing is allocated and nothing is kept between calls, so calls may run at the same time. */
 #ifndef MRC_H
 #define MRC_H
 
@@ -14,15 +14,27 @@ extern "C" {
 #endif
 
 enum {
-    MRC_LONGEST_LINE = 89,    /* no line is longer, the LF included: proved */
+    MRC_LONGEST_LINE = 93,    /* no line is longer, the LF included: proved */
     MRC_LONGEST_IMAGE = 65536 /* the most bytes that mrc_line and mrc_page list */
 };
 
 /* The most bytes of stack that a call takes on x86-64, measured and not proved. A decode calls itself after each prefix. */
 enum {
     MRC_STACK_USUAL = 8192,   /* with a budget of up to 15, which is that of lines */
-    MRC_STACK_LARGEST = 81920 /* with any budget */
+    MRC_STACK_LARGEST = 98304 /* with any budget */
 };
+
+/* How bytes are read. Every number but MRC_READING_2 is the first reading, 0 too: so no number is undefined, and a setting that is
+ * all zeros lists as the given Rust reads.
+ *
+ * The second reads as Intel's manual does where the first, which is the given Rust's, does not:
+ * - 83 extends the sign of its byte to a word;
+ * - memory through BP is in MRC_SS unless an override says otherwise, also for LEA, LES, LDS and ESC;
+ * - D2 and D3 count in CL, a byte;
+ * - C2 has an immediate word, as CA has in both;
+ * - ESC takes a whole ModRM with its displacement and has what mod and rm name, a word, as its operand;
+ * - A4 to A7, AC, AD and D7 keep the first override before them, where the first reading refuses it. */
+enum mrc_reading { MRC_READING_1 = 1, MRC_READING_2 = 2 };
 
 /* Why a call is refused. The byte that a refusal carries is 0 where none is named. */
 enum mrc_refusal {
@@ -35,7 +47,7 @@ enum mrc_refusal {
     MRC_INVALID_OP_CODE = 6,                  /* the opcode; 01 for F6 and F7 with reg 1 */
     MRC_INVALID_REGISTER_ENCODING = 7,        /* the field: a register field of 8 or more */
     MRC_INVALID_SEGMENT_ENCODING = 8,         /* the field: a segment field of 4 or more */
-    MRC_INVALID_PREFIX = 9,                   /* the first segment override: what follows is refused or has no operands */
+    MRC_INVALID_PREFIX = 9,                   /* the first segment override: what follows is refused, or has no operands and keeps none */
     MRC_TOO_MANY_PREFIXES = 10,               /* the prefix that is over the budget */
     MRC_OUTSIDE_INPUT = 11,                   /* the position is beyond the length */
     MRC_NO_ROOM = 12,                         /* the line is longer than its buffer */
@@ -46,8 +58,8 @@ enum mrc_refusal {
 #define MRC_WORDS __attribute__((aligned(8)))
 
 /* An operand. What its kind has no use for is 0. A byte displacement of 128 or more stands for itself less 256, a word
- * displacement of 32,768 or more for itself less 65,536; that of MRC_OP_RET counts bytes of the stack, and a line prints
- * its value as it is. */
+ * displacement of 32,768 or more for itself less 65,536; that of MRC_OP_RET, which is an immediate in the second reading, counts
+ * bytes of the stack, and a line prints its value as it is. */
 struct mrc_operand {
     uint8_t kind;         /* enum mrc_kind */
     uint8_t named;        /* enum mrc_segment_code of memory and of a segment register, enum mrc_register_code of a register */
@@ -67,7 +79,7 @@ struct MRC_WORDS mrc_record {
     uint8_t operation;             /* enum mrc_operation */
     uint8_t repeat;                /* 0 no repeat, 1 repeat while equal (F3), 2 repeat while not equal (F2) */
     uint8_t reach;                 /* enum mrc_reach */
-    uint8_t kept;                  /* 0, reserved: an override that is kept */
+    uint8_t kept;                  /* enum mrc_kept */
     uint8_t written;               /* 0, reserved: displacement bytes written */
     uint8_t operands;              /* how many operands there are: 0 to 2 */
     uint8_t reserved_2[2];         /* 0 */
@@ -77,8 +89,8 @@ struct MRC_WORDS mrc_record {
 /* The operands of a record. No instruction has a third. */
 enum { MRC_DESTINATION = 0, MRC_SOURCE = 1, MRC_THIRD = 2 };
 
-/* Decodes the instruction at a position, with at most `budget` prefixes, and writes every byte of the record. */
-void mrc_decode(const uint8_t *bytes, size_t length, size_t position, uint8_t budget, struct mrc_record *record);
+/* Decodes the instruction at a position, with at most `budget` prefixes, in the reading, and writes every byte of the record. */
+void mrc_decode(const uint8_t *bytes, size_t length, size_t position, uint8_t budget, uint8_t reading, struct mrc_record *record);
 
 /* The ModRM reader's answer. Of a refusal every field but the refusal and the bytes taken is 0. */
 struct MRC_WORDS mrc_modrm {
@@ -96,7 +108,7 @@ void mrc_mrrm(const uint8_t *bytes, size_t length, size_t position, struct mrc_m
 
 /* The counts of a decode, without its record: the bytes taken, plus 65,536 times the prefixes, plus 2^32 times the refusal's
  * number, which is 0 for an instruction. */
-uint64_t mrc_step(const uint8_t *bytes, size_t length, size_t position, uint8_t budget);
+uint64_t mrc_step(const uint8_t *bytes, size_t length, size_t position, uint8_t budget, uint8_t reading);
 
 /* What a field names: its code, or 65,536 times the refusal's number plus the field. */
 uint32_t mrc_register(uint8_t field);
@@ -109,27 +121,28 @@ uint32_t mrc_addressing(uint8_t field);
  * MRC_WORD. */
 uint8_t mrc_operand_size(uint8_t kind, uint8_t size);
 
-/* Writes the listing line at a position of an image, with its LF, to the front of `out`, and no byte behind it; there is no
- * NUL. A buffer of MRC_LONGEST_LINE bytes has room for every line.
+/* Writes the listing line at a position of an image in the reading, with its LF, to the front of `out`, and no byte behind it;
+ * there is no NUL. A buffer of MRC_LONGEST_LINE bytes has room for every line.
  *
  * Answers the line's length plus 65,536 times the bytes of the image that it accounts for; the next line starts behind
  * them. A refused call answers 2^32 times the refusal's number and writes nothing: MRC_IMAGE_TOO_LONG, MRC_OUTSIDE_INPUT,
  * MRC_END_OF_INPUT (the position is the length: no line is left), MRC_NO_ROOM, the first that applies. The byte of each is
  * 0, and a refused call has taken no byte and no prefix. */
-uint64_t mrc_line(const uint8_t *image, size_t length, size_t position, uint8_t *out, size_t room);
+uint64_t mrc_line(const uint8_t *image, size_t length, size_t position, uint8_t reading, uint8_t *out, size_t room);
 
 static inline enum mrc_refusal mrc_line_refusal(uint64_t answer) { return (enum mrc_refusal)(answer >> 32); }
 static inline size_t mrc_line_length(uint64_t answer) { return (size_t)(answer & 0xFFFF); }
 static inline size_t mrc_line_taken(uint64_t answer) { return (size_t)(answer >> 16 & 0xFFFF); }
 
-/* Writes the listing lines from a position of an image on to the front of `out`, as many whole lines as it has room for, and
- * no byte behind them; there is no NUL. A buffer of MRC_LONGEST_LINE bytes or more has room for a line wherever one is left.
+/* Writes the listing lines from a position of an image on, in the reading, to the front of `out`, as many whole lines as it has
+ * room for, and no byte behind them; there is no NUL. A buffer of MRC_LONGEST_LINE bytes or more has room for a line wherever
+ * one is left.
  *
  * Answers the length of the text, which is below 2^32, plus 2^32 times the bytes of the image that the lines account for, at
  * most MRC_LONGEST_IMAGE; the next line starts behind them. The answer is 0, and nothing is written, where there is no line
  * (the position is the length or beyond it, or the image is longer than MRC_LONGEST_IMAGE) and where the first has no room:
  * mrc_line says which. */
-uint64_t mrc_page(const uint8_t *image, size_t length, size_t position, uint8_t *out, size_t room);
+uint64_t mrc_page(const uint8_t *image, size_t length, size_t position, uint8_t reading, uint8_t *out, size_t room);
 
 static inline size_t mrc_page_length(uint64_t answer) { return (size_t)(answer & 0xFFFFFFFF); }
 static inline size_t mrc_page_taken(uint64_t answer) { return (size_t)(answer >> 32); }
@@ -157,6 +170,10 @@ enum mrc_size { MRC_BYTE, MRC_WORD, MRC_NO_SIZE };
 enum mrc_reach { MRC_NEITHER, MRC_NEAR, MRC_FAR };
 
 enum mrc_segment_code { MRC_ES, MRC_CS, MRC_SS, MRC_DS };
+
+/* The first override before an instruction that has no operands and keeps it: 1 more than the code of its segment. A line has it
+ * before the name, as in `ES: MOVSB`. An override of DS differs from none. In the first reading nothing is kept. */
+enum mrc_kept { MRC_NOTHING_KEPT, MRC_KEPT_ES, MRC_KEPT_CS, MRC_KEPT_SS, MRC_KEPT_DS };
 
 /* A register as a byte and as a word. */
 enum mrc_register_code { MRC_AL_AX, MRC_CL_CX, MRC_DL_DX, MRC_BL_BX, MRC_AH_SP, MRC_CH_BP, MRC_DH_SI, MRC_BH_DI };

@@ -1,13 +1,7 @@
 # Brings what a program said to a line for each step: offset, bytes taken, read or refused, text, with tabs between. The bytes
 # taken are those that the program shows or counts; a line of Sangkelod's that shows seven reaches to the next line's offset.
 #
-#     awk -v program=NAME -v image_length=N -f tools/compare.d/steps.awk
-
-function number(digits,   i, n) {
-    for (i = 1; i <= length(digits); i++)
-        n = 16 * n + index("0123456789abcdef", tolower(substr(digits, i, 1))) - 1
-    return n + 0
-}
+#     awk -v program=NAME -v image_length=N -f tools/compare.d/number.awk -f tools/compare.d/steps.awk
 
 function release(next_offset) {
     if (!held)

@@ -2,7 +2,8 @@
 
 use differential::listing;
 use differential::oracle::USUAL_BUDGET;
-use mrc::{boundary, LARGEST_BUDGET};
+use differential::reading::{GIVEN, MANUAL};
+use mrc::{boundary, Reading, LARGEST_BUDGET};
 use std::hint::black_box;
 
 /// How often a pass over the first instruction alone decodes it.
@@ -11,15 +12,21 @@ const REPEATS: usize = 1000;
 /// A name, and the pass over an image.
 pub type Pass = (&'static str, fn(&[u8]) -> usize);
 
-pub const PASSES: [Pass; 11] = [
+pub const PASSES: [Pass; 13] = [
     ("empty", |_| 0),
     ("ours-decode", |image| steps(image, ours)),
-    ("step-decode", |image| steps(image, our_step)),
+    ("step-decode", |image| steps(image, our_step::<GIVEN>)),
+    ("step-decode-2", |image| steps(image, our_step::<MANUAL>)),
     ("record-decode", |image| steps(image, record)),
     ("binding-decode", |image| steps(image, binding)),
     ("iterator-decode", |image| steps(image, iterator)),
     ("rust-decode", |image| steps(image, given_rust)),
-    ("ours-lines", |image| steps(image, our_line)),
+    ("ours-lines", |image| {
+        steps(image, |image, at| our_line(Reading::One, image, at))
+    }),
+    ("ours-lines-2", |image| {
+        steps(image, |image, at| our_line(Reading::Two, image, at))
+    }),
     ("rust-lines", |image| steps(image, given_line)),
     ("ours-first", |image| {
         repeated(image, ours_with_all_prefixes)
@@ -54,12 +61,12 @@ fn ours_with_all_prefixes(image: &[u8], at: usize) -> usize {
 
 fn ours_within(image: &[u8], at: usize, budget: u8) -> usize {
     let mut record = boundary::Record::default();
-    boundary::decode(image, at, budget, &mut record);
+    boundary::decode(image, at, budget, GIVEN, &mut record);
     moved(record.refusal == 0, usize::from(record.taken))
 }
 
-fn our_step(image: &[u8], at: usize) -> usize {
-    let counts = black_box(boundary::step(image, at, USUAL_BUDGET));
+fn our_step<const READING: u8>(image: &[u8], at: usize) -> usize {
+    let counts = black_box(boundary::step(image, at, USUAL_BUDGET, READING));
     moved(counts >> 32 == 0, (counts & 0xFFFF) as usize)
 }
 
@@ -86,15 +93,16 @@ fn given_rust(image: &[u8], at: usize) -> usize {
     moved(result.is_ok(), image.len() - at - bytes.len())
 }
 
-fn our_line(image: &[u8], at: usize) -> usize {
+fn our_line(reading: Reading, image: &[u8], at: usize) -> usize {
     let mut out = [0; mrc::LONGEST_LINE];
-    let written = mrc::line(image, at, &mut out).expect("a line within the image");
+    let written = reading.line(image, at, &mut out);
+    let written = written.expect("a line within the image");
     black_box(&out);
     written.taken
 }
 
 fn given_line(image: &[u8], at: usize) -> usize {
-    let line = listing::call(image, at, mrc::LONGEST_LINE).expect("a line within the image");
+    let line = listing::call(GIVEN, image, at, mrc::LONGEST_LINE).expect("a line within the image");
     black_box(line).taken
 }
 

@@ -1,9 +1,9 @@
-//! One question put to both sides, and their answers noted.
+//! One question put to both sides, and their answers noted. What reads bytes is asked in a reading, by its number.
 
 use differential::compare::{Limit, Question, Tally};
-use differential::oracle::{self, USUAL_BUDGET};
+use differential::oracle::USUAL_BUDGET;
 use differential::refusal::Refusal;
-use differential::{fields, listing, modrm, record};
+use differential::{fields, listing, modrm, reading, record};
 use mrc::boundary as ours;
 
 /// A line, or the refusal of a line call with any room.
@@ -46,17 +46,21 @@ const NO_MODRM: ours::Modrm = ours::Modrm {
 /// More room than any line has.
 pub const MUCH_ROOM: usize = 128;
 
-/// A decode's record but for near and far, that by itself, and the counts of the same decode.
-pub fn decode(tally: &mut Tally, bytes: &[u8], at: usize, budget: u8) {
-    let rust = oracle::decode(bytes, at, budget);
-    let question = |call| Question::new(call, bytes, at, Limit::Budget(budget));
+/// A decode's record but for near and far and what is kept, these by themselves, and the counts of the same decode.
+pub fn decode(tally: &mut Tally, reading: u8, bytes: &[u8], at: usize, budget: u8) {
+    let rust = reading::decode(reading, bytes, at, budget);
+    let question = |call| Question::new(call, reading, bytes, at, Limit::Budget(budget));
     let mut out = NO_RECORD;
-    ours::decode(bytes, at, budget, &mut out);
+    ours::decode(bytes, at, budget, reading, &mut out);
     let told = record::of(&rust);
     let read = record::of_the_rust(out.bytes());
     tally.note(&record::of_the_rust(told), &read, || question("decode"));
-    tally.note(&[told[record::REACH]], &[out.reach], || question("near or far"));
-    let step = ours::step(bytes, at, budget);
+    tally.note(
+        &told[record::REACH..=record::KEPT],
+        &[out.reach, out.kept],
+        || question("near or far, and kept"),
+    );
+    let step = ours::step(bytes, at, budget, reading);
     let rust = record::step(&rust);
     tally.note(&rust.to_be_bytes(), &step.to_be_bytes(), || {
         question("step")
@@ -67,19 +71,17 @@ pub fn mrrm(tally: &mut Tally, bytes: &[u8], at: usize) {
     let rust = modrm::read(bytes, at);
     let mut out = NO_MODRM;
     ours::mrrm(bytes, at, &mut out);
-    tally.note(&rust, &out.bytes(), || {
-        Question::new("mrrm", bytes, at, Limit::None)
-    });
+    tally.note(&rust, &out.bytes(), || Question::unread("mrrm", bytes, at));
 }
 
 /// A decode into the second of three records, and the other two.
-pub fn decode_between(tally: &mut Tally, bytes: &[u8]) {
-    let rust = record::of(&oracle::decode(bytes, 0, USUAL_BUDGET));
+pub fn decode_between(tally: &mut Tally, reading: u8, bytes: &[u8]) {
+    let rust = record::of(&reading::decode(reading, bytes, 0, USUAL_BUDGET));
     let mut out = [NO_RECORD; 3];
-    ours::decode(bytes, 0, USUAL_BUDGET, &mut out[1]);
+    ours::decode(bytes, 0, USUAL_BUDGET, reading, &mut out[1]);
     let out = out.map(ours::Record::bytes).concat();
     tally.note(&between_untouched(&rust), &out, || {
-        Question::new("decode between records", bytes, 0, Limit::None)
+        Question::new("decode between records", reading, bytes, 0, Limit::None)
     });
 }
 
@@ -90,7 +92,7 @@ pub fn mrrm_between(tally: &mut Tally, bytes: &[u8]) {
     ours::mrrm(bytes, 0, &mut out[1]);
     let out = out.map(ours::Modrm::bytes).concat();
     tally.note(&between_untouched(&rust), &out, || {
-        Question::new("mrrm between records", bytes, 0, Limit::None)
+        Question::unread("mrrm between records", bytes, 0)
     });
 }
 
@@ -102,7 +104,7 @@ fn between_untouched(record: &[u8]) -> Vec<u8> {
 pub fn field_readers(tally: &mut Tally, field: u8) {
     let mut note = |call, rust: u32, ours: u32| {
         tally.note(&rust.to_be_bytes(), &ours.to_be_bytes(), || {
-            Question::new(call, &[field], 0, Limit::None)
+            Question::unread(call, &[field], 0)
         });
     };
     note("register", fields::register(field), ours::register(field));
@@ -118,7 +120,7 @@ pub fn operand_size(tally: &mut Tally, kind: u8, size: u8) {
     let rust = fields::operand_size(kind, size);
     let ours = ours::operand_size(kind, size);
     tally.note(&[rust], &[ours], || {
-        Question::new("operand_size", &[kind, size], 0, Limit::None)
+        Question::unread("operand_size", &[kind, size], 0)
     });
 }
 
@@ -134,25 +136,26 @@ fn called(room: usize, call: impl FnOnce(&mut [u8]) -> u64) -> Vec<u8> {
 }
 
 /// The line call into a buffer of `room` bytes.
-pub fn line(tally: &mut Tally, image: &[u8], at: usize, room: usize) {
-    line_into(tally, image, at, room, &listing::line(image, at));
+pub fn line(tally: &mut Tally, reading: u8, image: &[u8], at: usize, room: usize) {
+    let line = listing::line(reading, image, at);
+    line_into(tally, reading, image, at, room, &line);
 }
 
 /// The line call into a buffer that is one byte too short, into one of just the line's length, into one with room for every
 /// line, and into a larger one.
-pub fn line_by_length(tally: &mut Tally, image: &[u8], at: usize) {
-    let line = listing::line(image, at);
+pub fn line_by_length(tally: &mut Tally, reading: u8, image: &[u8], at: usize) {
+    let line = listing::line(reading, image, at);
     let length = line.as_ref().map_or(1, |line| line.text.len());
     for room in [length - 1, length, mrc::LONGEST_LINE, MUCH_ROOM] {
-        line_into(tally, image, at, room, &line);
+        line_into(tally, reading, image, at, room, &line);
     }
 }
 
-fn line_into(tally: &mut Tally, image: &[u8], at: usize, room: usize, line: &Listed) {
+fn line_into(tally: &mut Tally, reading: u8, image: &[u8], at: usize, room: usize, line: &Listed) {
     let rust = called(room, |out| write_line(line, out));
-    let ours = called(room, |out| ours::line(image, at, out));
+    let ours = called(room, |out| ours::line(image, at, reading, out));
     tally.note(&rust, &ours, || {
-        Question::new("line", image, at, Limit::Room(room))
+        Question::new("line", reading, image, at, Limit::Room(room))
     });
 }
 
@@ -168,34 +171,35 @@ fn write_line(line: &Listed, out: &mut [u8]) -> u64 {
 }
 
 /// The page call into a buffer of `room` bytes. Answers the bytes that the page accounts for.
-pub fn page(tally: &mut Tally, image: &[u8], at: usize, room: usize) -> usize {
-    let page = listing::page(image, at, room);
+pub fn page(tally: &mut Tally, reading: u8, image: &[u8], at: usize, room: usize) -> usize {
+    let page = listing::page(reading, image, at, room);
     let rust = called(room, |out| {
         write_front(out, &page.text);
         page.text.len() as u64 + ((page.taken as u64) << 32)
     });
-    let ours = called(room, |out| ours::page(image, at, out));
+    let ours = called(room, |out| ours::page(image, at, reading, out));
     tally.note(&rust, &ours, || {
-        Question::new("page", image, at, Limit::Room(room))
+        Question::new("page", reading, image, at, Limit::Room(room))
     });
     page.taken
 }
 
 /// Our pages of a whole image, joined, beside its lines.
-pub fn pages(tally: &mut Tally, image: &[u8], room: usize) {
+pub fn pages(tally: &mut Tally, reading: u8, image: &[u8], room: usize) {
     let mut out = vec![UNTOUCHED; room];
     let (mut joined, mut at) = (Vec::new(), 0);
     loop {
-        let page = mrc::page(image, at, &mut out);
-        joined.extend(&out[..page.length]);
-        at += page.taken;
-        if page.taken == 0 {
+        let page = ours::page(image, at, reading, &mut out);
+        let (length, taken) = (page as u32 as usize, (page >> 32) as usize);
+        joined.extend(&out[..length]);
+        at += taken;
+        if taken == 0 {
             break;
         }
     }
-    let lines = listing::page(image, 0, usize::MAX);
+    let lines = listing::page(reading, image, 0, usize::MAX);
     tally.note(lines.text.as_bytes(), &joined, || {
-        Question::new("pages", image, 0, Limit::Room(room))
+        Question::new("pages", reading, image, 0, Limit::Room(room))
     });
 }
 

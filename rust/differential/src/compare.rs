@@ -33,16 +33,27 @@ pub struct Question {
     at: usize,
     limit: Limit,
     call: &'static str,
+    reading: Option<u8>,
 }
 
 impl Question {
-    pub fn new(call: &'static str, bytes: &[u8], at: usize, limit: Limit) -> Self {
+    pub fn new(call: &'static str, reading: u8, bytes: &[u8], at: usize, limit: Limit) -> Self {
+        Self {
+            limit,
+            reading: Some(reading),
+            ..Self::unread(call, bytes, at)
+        }
+    }
+
+    /// A question that no reading answers differently, and that has no limit.
+    pub fn unread(call: &'static str, bytes: &[u8], at: usize) -> Self {
         Self {
             length: bytes.len(),
             bytes: bytes.to_vec(),
             at,
-            limit,
+            limit: Limit::None,
             call,
+            reading: None,
         }
     }
 }
@@ -52,7 +63,11 @@ impl fmt::Display for Question {
         let Self {
             call, at, limit, ..
         } = self;
-        write!(f, "{call} of {}, position {at}{limit}", self.input_text())
+        write!(f, "{call} of {}, position {at}{limit}", self.input_text())?;
+        match self.reading {
+            None => Ok(()),
+            Some(reading) => write!(f, ", reading {reading}"),
+        }
     }
 }
 
@@ -81,7 +96,7 @@ impl fmt::Display for Difference {
         if is_record(&self.rust) {
             writeln!(f, "              {}", record::HEADING)?;
         }
-        writeln!(f, "    the Rust: {}", shown(&self.rust))?;
+        writeln!(f, "    expected: {}", shown(&self.rust))?;
         write!(f, "    ours:     {}", shown(&self.ours))
     }
 }
@@ -171,9 +186,7 @@ mod tests {
     fn tally_of(inputs: &[&[u8]]) -> Tally {
         over(inputs.len(), |chunk, tally| {
             let input = inputs[chunk];
-            tally.note(&[1], &[input[0] % 2], || {
-                Question::new("odd", input, 0, Limit::None)
-            });
+            tally.note(&[1], &[input[0] % 2], || Question::unread("odd", input, 0));
         })
     }
 
@@ -182,16 +195,13 @@ mod tests {
         let tally = tally_of(&[&[2, 0], &[4], &[3], &[2, 2], &[6]]);
         assert_eq!((tally.compared, tally.differ), (5, 4));
         let smallest = tally.smallest.expect("four differences");
-        assert_eq!(
-            smallest.question,
-            Question::new("odd", &[4], 0, Limit::None)
-        );
+        assert_eq!(smallest.question, Question::unread("odd", &[4], 0));
     }
 
     #[test]
     fn a_long_input_is_shown_from_its_position() {
-        let question = Question::new("line", &[0x90; 401], 399, Limit::Room(7));
-        let text = "line of 401 bytes, there [90 90], position 399, room 7";
+        let question = Question::new("line", 2, &[0x90; 401], 399, Limit::Room(7));
+        let text = "line of 401 bytes, there [90 90], position 399, room 7, reading 2";
         assert_eq!(question.to_string(), text);
     }
 

@@ -1,8 +1,9 @@
-//! The listing line, rendered plainly from the given Rust's answer; near and far, which it does not tell, from the bytes.
+//! The listing line, rendered plainly from a reading's answer; near and far, which the given Rust does not tell, from the bytes.
 
 use crate::compare::hex;
-use crate::oracle::{self, USUAL_BUDGET};
+use crate::oracle::{Answer, USUAL_BUDGET};
 use crate::reach;
+use crate::reading;
 use crate::refusal::Refusal;
 use mrc_instruction::{
     Displacement, Immediate, Instruction, Operand, OperandSet, OperandSize, Operation, Repeat,
@@ -20,8 +21,8 @@ pub struct Line {
 }
 
 /// The line at a position, or the refusal of a call whose buffer has `room` bytes.
-pub fn call(image: &[u8], at: usize, room: usize) -> Result<Line, Refusal> {
-    let line = line(image, at)?;
+pub fn call(reading: u8, image: &[u8], at: usize, room: usize) -> Result<Line, Refusal> {
+    let line = line(reading, image, at)?;
     if line.text.len() > room {
         return Err(Refusal::NO_ROOM);
     }
@@ -29,7 +30,7 @@ pub fn call(image: &[u8], at: usize, room: usize) -> Result<Line, Refusal> {
 }
 
 /// The line at a position, or the refusal of a call with any room.
-pub fn line(image: &[u8], at: usize) -> Result<Line, Refusal> {
+pub fn line(reading: u8, image: &[u8], at: usize) -> Result<Line, Refusal> {
     if image.len() > LONGEST_IMAGE {
         return Err(Refusal::IMAGE_TOO_LONG);
     }
@@ -39,29 +40,26 @@ pub fn line(image: &[u8], at: usize) -> Result<Line, Refusal> {
     if at == image.len() {
         return Err(Refusal::END_OF_INPUT);
     }
-    Ok(line_at(image, at))
+    Ok(line_at(reading, image, at))
 }
 
 /// The lines from a position on that fit whole into a room, and the bytes that they account for.
-pub fn page(image: &[u8], at: usize, room: usize) -> Line {
+pub fn page(reading: u8, image: &[u8], at: usize, room: usize) -> Line {
     let mut page = Line {
         text: String::new(),
         taken: 0,
     };
-    while let Ok(line) = call(image, at + page.taken, room - page.text.len()) {
+    while let Ok(line) = call(reading, image, at + page.taken, room - page.text.len()) {
         page.text += &line.text;
         page.taken += line.taken;
     }
     page
 }
 
-fn line_at(image: &[u8], at: usize) -> Line {
-    let answer = oracle::decode(image, at, USUAL_BUDGET);
-    let (taken, words) = match answer.result {
-        Ok(instruction) => (
-            answer.taken,
-            instruction_text(&instruction, answer.reach, at + answer.taken, 0),
-        ),
+fn line_at(reading: u8, image: &[u8], at: usize) -> Line {
+    let answer = reading::decode(reading, image, at, USUAL_BUDGET);
+    let (taken, words) = match &answer.result {
+        Ok(instruction) => (answer.taken, answer_text(instruction, &answer, at)),
         Err(_) => (1, format!("DB {:02X}", image[at])),
     };
     let shown = hex(&image[at..at + taken.min(BYTES_SHOWN)], " ");
@@ -71,13 +69,31 @@ fn line_at(image: &[u8], at: usize) -> Line {
     }
 }
 
+/// The text of an answer's instruction at an offset.
+fn answer_text(instruction: &Instruction, answer: &Answer, at: usize) -> String {
+    let repeat = repeat_text(instruction);
+    let kept = ["", "ES: ", "CS: ", "SS: ", "DS: "][usize::from(answer.kept)];
+    let words = words_text(instruction, answer.reach, at + answer.taken, 0);
+    format!("{repeat}{kept}{words}")
+}
+
 /// `next` is the offset of the byte after the instruction; from `base` a displacement of RET counts.
 pub fn instruction_text(instruction: &Instruction, reach: u8, next: usize, base: usize) -> String {
-    let repeat = match instruction.repeat {
+    let repeat = repeat_text(instruction);
+    let words = words_text(instruction, reach, next, base);
+    format!("{repeat}{words}")
+}
+
+fn repeat_text(instruction: &Instruction) -> &'static str {
+    match instruction.repeat {
         None => "",
         Some(Repeat::Equal) => "REPE ",
         Some(Repeat::NotEqual) => "REPNE ",
-    };
+    }
+}
+
+/// The name and the operands.
+fn words_text(instruction: &Instruction, reach: u8, next: usize, base: usize) -> String {
     let name = instruction.operation.to_string().to_uppercase();
     let far = if reach == reach::FAR { " FAR" } else { "" };
     let operands = match &instruction.operands {
@@ -93,7 +109,7 @@ pub fn instruction_text(instruction: &Instruction, reach: u8, next: usize, base:
             format!(" {}, {}", operand_text(destination), operand_text(source))
         }
     };
-    format!("{repeat}{name}{far}{operands}")
+    format!("{name}{far}{operands}")
 }
 
 fn alone_text(operand: &Operand, from: usize) -> String {
@@ -159,6 +175,7 @@ fn upper(name: &impl ToString) -> String {
 #[cfg(test)]
 mod tests {
     use super::*;
+    use crate::reading::GIVEN;
     use mrc_decoder::{decode_instruction, DecodedInstruction};
     use mrc_instruction::Address;
 
@@ -167,7 +184,7 @@ mod tests {
     fn list(image: &[u8]) -> String {
         let mut text = String::new();
         let mut at = 0;
-        while let Ok(line) = call(image, at, ROOM) {
+        while let Ok(line) = call(GIVEN, image, at, ROOM) {
             text += &line.text;
             at += line.taken;
         }
@@ -176,7 +193,7 @@ mod tests {
     }
 
     fn refusal(image: &[u8], at: usize, room: usize) -> u8 {
-        call(image, at, room)
+        call(GIVEN, image, at, room)
             .err()
             .map_or(0, |refusal| refusal.number)
     }
@@ -216,7 +233,7 @@ mod tests {
         let ends = |at: usize, bytes: &[u8], words: &str| {
             let mut image = vec![0x90; at];
             image.extend(bytes);
-            let text = call(&image, at, ROOM).expect("a line").text;
+            let text = call(GIVEN, &image, at, ROOM).expect("a line").text;
             assert!(text.ends_with(&format!("  {words}\n")), "{text}");
         };
         for at in [0, 0x100, 0xFFF0] {
@@ -253,10 +270,10 @@ mod tests {
     #[test]
     fn a_page_has_whole_lines() {
         let image = [0x90, 0x60, 0x90];
-        let page = page(&image, 1, 70);
+        let page = page(GIVEN, &image, 1, 70);
         assert_eq!(page.text, list(&image)[33..]);
         assert_eq!((page.text.len(), page.taken), (68, 2));
-        let page = super::page(&image, 1, 67);
+        let page = super::page(GIVEN, &image, 1, 67);
         assert_eq!((page.text.len(), page.taken), (35, 1));
     }
 
@@ -280,7 +297,9 @@ mod tests {
     fn assert_target(bytes: &[u8], at: u16) {
         let mut image = vec![0; usize::from(at)];
         image.extend(bytes);
-        let ours = call(&image, usize::from(at), ROOM).expect("a line").text;
+        let ours = call(GIVEN, &image, usize::from(at), ROOM)
+            .expect("a line")
+            .text;
         let ours = &ours[ours.len() - 5..ours.len() - 1];
         assert!(
             target_of_the_rust(bytes, at).ends_with(&format!(" 0x{ours}")),

@@ -1,10 +1,12 @@
-//! Compares the proved library with the given Rust, family by family. The argument is the seed of the random cases.
+//! Compares the proved library with the given Rust, family by family, and in the second reading with what `second` makes of the
+//! given Rust's answers. The argument is the seed of the random cases.
 
 mod both;
 mod families;
 mod own_types;
 
 use differential::compare::Tally;
+use differential::reading::{GIVEN, MANUAL};
 use std::env;
 use std::process::ExitCode;
 use std::time::Instant;
@@ -18,7 +20,7 @@ fn main() -> ExitCode {
     };
     let start = Instant::now();
     println!("seed {seed}");
-    println!("the Rust does not tell near and far: records leave it out, and it is held to the bytes by itself");
+    println!("the Rust does not tell near and far and keeps no override: records leave both out, near and far is held to the bytes by itself, and what is kept to 0 in reading 1");
     let total = run(seed);
     println!(
         "{} compared, {} differ, in {} s",
@@ -55,37 +57,54 @@ fn run(seed: u64) -> Tally {
     );
     family("the types of rust/mrc", families::own_types(seed));
     family("a record between records", families::between_records());
-    family(
-        "every string of up to three bytes",
-        families::short_strings(),
-    );
-    family(
-        "every opcode with every ModRM byte, tails, prefixes and cuts",
-        families::every_modrm_cut(),
-    );
-    family(
-        "random strings at every position with every budget",
-        families::random_strings(seed),
-    );
-    family(
-        "prefix runs of 0 to 300 with every budget",
-        families::prefix_runs(seed),
-    );
     family("the ModRM reader", families::modrm_reader(seed));
-    lines(seed, &mut family);
+    family("every number of a reading", families::reading_numbers());
+    for reading in [GIVEN, MANUAL] {
+        let mut family = |what: &str, tally| family(&format!("reading {reading}, {what}"), tally);
+        decodes(reading, seed, &mut family);
+        lines(reading, seed, &mut family);
+    }
     total
 }
 
-fn lines(seed: u64, family: &mut impl FnMut(&str, Tally)) {
+fn decodes(reading: u8, seed: u64, family: &mut impl FnMut(&str, Tally)) {
+    family(
+        "every string of up to three bytes",
+        families::short_strings(reading),
+    );
+    family(
+        "every opcode with every ModRM byte, tails, prefixes and cuts",
+        families::every_modrm_cut(reading),
+    );
+    family(
+        "random strings at every position with every budget",
+        families::random_strings(reading, seed),
+    );
+    family(
+        "prefix runs of 0 to 300 with every budget",
+        families::prefix_runs(reading, seed),
+    );
+}
+
+fn lines(reading: u8, seed: u64, family: &mut impl FnMut(&str, Tally)) {
     family(
         "a line of every opcode with every ModRM byte, in four rooms",
-        families::lines(),
+        families::lines(reading),
     );
     family(
         "a line at every position of an image, in four rooms",
-        families::lines_of_an_image(seed),
+        families::lines_of_an_image(reading, seed),
     );
-    family("line buffers of 0 to 128 bytes", families::line_rooms(seed));
-    family("pages of an image, and joined", families::pages(seed));
-    family("page buffers of 0 to 511 bytes", families::page_rooms(seed));
+    family(
+        "line buffers of 0 to 128 bytes",
+        families::line_rooms(reading, seed),
+    );
+    family(
+        "pages of an image, and joined",
+        families::pages(reading, seed),
+    );
+    family(
+        "page buffers of 0 to 511 bytes",
+        families::page_rooms(reading, seed),
+    );
 }

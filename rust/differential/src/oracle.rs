@@ -15,6 +15,8 @@ pub struct Answer {
     pub prefixes: usize,
     /// The code of `enum mrc_reach`, found in the bytes.
     pub reach: u8,
+    /// The code of `enum mrc_kept`: an override that is kept, of which the given Rust has none.
+    pub kept: u8,
 }
 
 pub fn decode(bytes: &[u8], at: usize, budget: u8) -> Answer {
@@ -25,7 +27,7 @@ pub fn decode(bytes: &[u8], at: usize, budget: u8) -> Answer {
 }
 
 fn decode_within(bytes: &[u8], budget: usize) -> Answer {
-    let prefixes = prefix_run(bytes);
+    let prefixes = prefixes(bytes).len();
     if prefixes > budget {
         return refused(Refusal::too_many_prefixes(bytes[budget]), budget + 1);
     }
@@ -37,6 +39,7 @@ fn decode_within(bytes: &[u8], budget: usize) -> Answer {
         taken: counted.taken,
         prefixes,
         reach,
+        kept: 0,
     }
 }
 
@@ -47,16 +50,19 @@ fn refused(refusal: Refusal, prefixes: usize) -> Answer {
         taken: prefixes,
         prefixes,
         reach: reach::NEITHER,
+        kept: 0,
     }
 }
 
-fn prefix_run(bytes: &[u8]) -> usize {
-    bytes.iter().take_while(|byte| is_prefix(**byte)).count()
+/// The prefixes in front.
+pub fn prefixes(bytes: &[u8]) -> &[u8] {
+    let count = bytes.iter().take_while(|byte| is_prefix(**byte)).count();
+    &bytes[..count]
 }
 
 /// What follows the prefixes.
 pub fn tail(bytes: &[u8]) -> &[u8] {
-    &bytes[prefix_run(bytes)..]
+    &bytes[prefixes(bytes).len()..]
 }
 
 fn is_prefix(byte: u8) -> bool {

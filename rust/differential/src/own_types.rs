@@ -1,7 +1,8 @@
 //! What rust/mrc answers in its own types, beside the given Rust: types of the same name print alike with `Debug`.
 
-use differential::compare::{Limit, Question, Tally};
+use differential::compare::{Question, Tally};
 use differential::counted::Counted;
+use differential::second;
 use mrc::TryFromEncoding as _;
 use mrc_decoder::TryFromEncoding as _;
 use std::fmt::{Debug, Display};
@@ -22,6 +23,35 @@ pub fn decode(tally: &mut Tally, bytes: &[u8]) {
         rust,
         text(read, counted.taken),
     );
+}
+
+/// Decoding from an iterator in the second reading: the instruction with what it keeps, or the refusal's number and byte, and the
+/// bytes taken.
+pub fn decode_second(tally: &mut Tally, bytes: &[u8]) {
+    let told = second::decode(bytes, 0, mrc::LARGEST_BUDGET);
+    let rust = match told.result {
+        Ok(i) => format!("{:?}", (i.operation, i.operands, i.repeat, told.kept)),
+        Err(refusal) => format!("{:?}", (refusal.number, refusal.byte)),
+    };
+    let mut counted = Counted::new(bytes);
+    let ours = match mrc::Reading::Two.decode_instruction(&mut counted) {
+        Ok(i) => format!(
+            "{:?}",
+            (i.operation, i.operands, i.repeat, kept_code(i.kept))
+        ),
+        Err(refusal) => format!("{:?}", (refusal.number(), refusal.byte())),
+    };
+    note(
+        tally,
+        "decode_instruction in reading 2",
+        bytes,
+        format!("{rust}, {} taken", told.taken),
+        format!("{ours}, {} taken", counted.taken),
+    );
+}
+
+fn kept_code(kept: Option<mrc::Segment>) -> u8 {
+    kept.map_or(0, |segment| 1 + segment as u8)
 }
 
 /// The ModRM of a first byte and what follows it.
@@ -63,6 +93,6 @@ fn text(answer: Result<impl Debug, impl Debug + Display>, taken: usize) -> Strin
 
 fn note(tally: &mut Tally, call: &'static str, bytes: &[u8], rust: String, ours: String) {
     tally.note(rust.as_bytes(), ours.as_bytes(), || {
-        Question::new(call, bytes, 0, Limit::None)
+        Question::unread(call, bytes, 0)
     });
 }

@@ -25,13 +25,34 @@ mod tests {
 
     #[test]
     fn calls_jumps_and_returns_by_their_bytes() {
-        for bytes in [[0x9A, 0], [0xEA, 0], [0xCA, 0], [0xCB, 0], [0xFF, 0x1F], [0xFF, 0xE8]] {
+        for bytes in [
+            [0x9A, 0],
+            [0xEA, 0],
+            [0xCA, 0],
+            [0xCB, 0],
+            [0xFF, 0x1F],
+            [0xFF, 0xE8],
+        ] {
             assert_eq!(of(&bytes), FAR, "{bytes:02X?}");
         }
-        for bytes in [[0xE8, 0], [0xEB, 0], [0xC3, 0], [0xFF, 0x17], [0xFF, 0xE0], [0xFE, 0x1F]] {
+        for bytes in [
+            [0xE8, 0],
+            [0xEB, 0],
+            [0xC3, 0],
+            [0xFF, 0x17],
+            [0xFF, 0xE0],
+            [0xFE, 0x1F],
+        ] {
             assert_eq!(of(&bytes), NEAR, "{bytes:02X?}");
         }
-        for bytes in [[0xCF, 0], [0x75, 0], [0xE3, 0], [0xCD, 0], [0xFE, 0xC8], [0xFF, 0x37]] {
+        for bytes in [
+            [0xCF, 0],
+            [0x75, 0],
+            [0xE3, 0],
+            [0xCD, 0],
+            [0xFE, 0xC8],
+            [0xFF, 0x37],
+        ] {
             assert_eq!(of(&bytes), NEITHER, "{bytes:02X?}");
         }
         assert_eq!(of(&[0xF3, 0x26, 0xFF, 0x1F]), FAR);
@@ -41,7 +62,10 @@ mod tests {
     fn how_many_first_bytes_and_regs_are_far_and_near() {
         let counted = |reach| {
             let regs = |opcode| (0..8).map(move |reg| [opcode, reg << 3]);
-            let found: Vec<_> = (0..=255).flat_map(regs).filter(|bytes| of(bytes) == reach).collect();
+            let found: Vec<_> = (0..=255)
+                .flat_map(regs)
+                .filter(|bytes| of(bytes) == reach)
+                .collect();
             found.len()
         };
         assert_eq!(counted(FAR), 4 * 8 + 2);

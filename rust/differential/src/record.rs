@@ -9,6 +9,7 @@
 //! | 8 | the operation's number in operation.rs, REP and REPNE left out |
 //! | 9 | 0 no repeat, 1 Equal, 2 NotEqual |
 //! | 10 | 0 neither, 1 near, 2 far, which the given Rust does not tell |
+//! | 11 | 0, or 1 and the code of the segment that is kept, which the given Rust has not |
 //! | 13 | the number of operands |
 //! | 16 to 23 | the destination |
 //! | 24 to 31 | the source |
@@ -33,6 +34,7 @@ type OperandBytes = [u8; 8];
 pub const OPERATION: usize = 8;
 pub const REPEAT: usize = 9;
 pub const REACH: usize = 10;
+pub const KEPT: usize = 11;
 pub const OPERANDS: usize = 13;
 pub const DESTINATION: usize = 16;
 pub const SOURCE: usize = 24;
@@ -58,16 +60,17 @@ pub fn of(answer: &Answer) -> Record {
         Ok(instruction) => {
             write_instruction(instruction, &mut record);
             record[REACH] = answer.reach;
+            record[KEPT] = answer.kept;
         }
         Err(Refusal { number, byte }) => record[..2].copy_from_slice(&[*number, *byte]),
     }
     record
 }
 
-/// The record without near and far, of which the given Rust has no answer.
+/// The record without near and far and what is kept, of which the given Rust has no answer.
 pub fn of_the_rust(record: Record) -> Record {
     let mut record = record;
-    record[REACH] = 0;
+    record[REACH..=KEPT].fill(0);
     record
 }
 
@@ -82,13 +85,13 @@ pub fn step(answer: &Answer) -> u64 {
 }
 
 /// What `spaced` has in its columns: refusal, byte, taken, prefixes, what is reserved, operation, repeat, near or far, what is
-/// reserved, the number of operands, what is reserved, destination, source, third operand.
+/// kept, what is reserved, the number of operands, what is reserved, destination, source, third operand.
 pub const HEADING: &str =
-    "no by tak. pre.      op re nf      n       destination      source           third";
+    "no by tak. pre.      op re nf ke    n       destination      source           third";
 
 /// The record with a space between its fields.
 pub fn spaced(record: &[u8]) -> String {
-    let ends = [1, 2, 4, 6, 8, 9, 10, 11, 13, 14, 16, 24, 32, 40];
+    let ends = [1, 2, 4, 6, 8, 9, 10, 11, 12, 13, 14, 16, 24, 32, 40];
     let starts = [0].into_iter().chain(ends);
     let fields = starts
         .zip(ends)
@@ -209,11 +212,11 @@ mod tests {
     fn destination_stands_before_source() {
         assert_eq!(
             read(&[0x8B, 0x07]),
-            "00 00 0200 0000 0000 00 00 00 0000 02 0000 0500000100000000 0203070100000000 0000000000000000"
+            "00 00 0200 0000 0000 00 00 00 00 00 02 0000 0500000100000000 0203070100000000 0000000000000000"
         );
         assert_eq!(
             read(&[0x89, 0x07]),
-            "00 00 0200 0000 0000 00 00 00 0000 02 0000 0203070100000000 0500000100000000 0000000000000000"
+            "00 00 0200 0000 0000 00 00 00 00 00 02 0000 0203070100000000 0500000100000000 0000000000000000"
         );
     }
 
@@ -221,18 +224,18 @@ mod tests {
     fn displacements_keep_their_width() {
         assert_eq!(
             read(&[0xEB, 0x80]),
-            "00 00 0200 0000 0000 39 00 01 0000 01 0000 0A00000080000000 0000000000000000 0000000000000000"
+            "00 00 0200 0000 0000 39 00 01 00 00 01 0000 0A00000080000000 0000000000000000 0000000000000000"
         );
         assert_eq!(
             read(&[0xE9, 0x00, 0x80]),
-            "00 00 0300 0000 0000 39 00 01 0000 01 0000 0B00000000800000 0000000000000000 0000000000000000"
+            "00 00 0300 0000 0000 39 00 01 00 00 01 0000 0B00000000800000 0000000000000000 0000000000000000"
         );
     }
 
     #[test]
     fn a_far_address_has_segment_and_offset() {
         let record = read(&[0x9A, 0x34, 0x12, 0x78, 0x56]);
-        assert_eq!(record, "00 00 0500 0000 0000 38 00 02 0000 01 0000 0C00000034127856 0000000000000000 0000000000000000");
+        assert_eq!(record, "00 00 0500 0000 0000 38 00 02 00 00 01 0000 0C00000034127856 0000000000000000 0000000000000000");
     }
 
     #[test]
@@ -253,7 +256,7 @@ mod tests {
     fn a_refusal_has_its_number_byte_and_counts() {
         assert_eq!(
             read(&[0x26, 0xA4]),
-            "09 26 0200 0100 0000 00 00 00 0000 00 0000 0000000000000000 0000000000000000 0000000000000000"
+            "09 26 0200 0100 0000 00 00 00 00 00 00 0000 0000000000000000 0000000000000000 0000000000000000"
         );
     }
 }

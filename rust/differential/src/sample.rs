@@ -1,9 +1,12 @@
-//! The cases whose answers are stored: some thousands, which cover every opcode, ModRM shape, cut, prefix run and budget rule.
+//! The cases whose answers are stored: some thousands, which cover every opcode, ModRM shape, cut, prefix run and budget rule, and
+//! behind them those of the second reading.
 
 use crate::case::Case;
 use crate::cases::{random_string, FRONTS};
 use crate::oracle::{self, USUAL_BUDGET};
 use crate::random::Random;
+use crate::reading;
+use crate::sample_second;
 use std::collections::HashSet;
 
 const RANDOM_CASES: u64 = 800;
@@ -23,7 +26,9 @@ pub fn all() -> Vec<Case> {
         positions(),
         random_cases(),
     ];
-    let cases = parts.into_iter().flatten();
+    let second = numbered().into_iter().chain(sample_second::all());
+    let second = second.map(Case::in_the_second);
+    let cases = parts.into_iter().flatten().chain(second);
     cases.filter(|case| seen.insert(case.clone())).collect()
 }
 
@@ -82,15 +87,18 @@ fn every_group_and_shape() -> Vec<Case> {
         0x00, 0x03, 0x30, 0x3B, 0x80, 0x82, 0x83, 0x84, 0x85, 0x86, 0x87, 0x88, 0x89, 0x8A, 0x8C,
         0x8D, 0x8E, 0x8F, 0xC0, 0xC1, 0xC4, 0xC5, 0xC6, 0xC7, 0xD0, 0xD3, 0xF6, 0xF7, 0xFE, 0xFF,
     ];
+    OPCODES.into_iter().flat_map(every_reg_and_shape).collect()
+}
+
+/// The opcode with every reg and a ModRM of each shape.
+pub fn every_reg_and_shape(opcode: u8) -> Vec<Case> {
     const SHAPES: [u8; 5] = [0x07, 0x06, 0x42, 0x83, 0xC5];
-    let mut cases = Vec::new();
-    for opcode in OPCODES {
-        for shape in SHAPES {
-            let with = |reg: u8| Case::at_front(&[opcode, shape + 8 * reg, 0xFE, 0xCA, 0x80, 0x7F]);
-            cases.extend((0..8).map(with));
-        }
-    }
-    cases
+    let with = |modrm: u8| Case::at_front(&[opcode, modrm, 0xFE, 0xCA, 0x80, 0x7F]);
+    SHAPES
+        .into_iter()
+        .flat_map(|shape| (0..8).map(move |reg| shape + 8 * reg))
+        .map(with)
+        .collect()
 }
 
 /// Displacements of zero, one, and the largest and smallest of their width, in every addressing mode.
@@ -140,7 +148,8 @@ fn prefix_runs() -> Vec<Case> {
     cases
 }
 
-fn runs_about(budget: u8, tail: &[u8]) -> Vec<Case> {
+/// Prefixes as many as the budget, one less, and one and two more, before a tail.
+pub fn runs_about(budget: u8, tail: &[u8]) -> Vec<Case> {
     const PATTERNS: [&[u8]; 4] = [&[0x26], &[0xF3], &[0xF2, 0x2E, 0xF3], &[0x3E, 0xF3, 0x36]];
     let budget_length = usize::from(budget);
     let mut cases = Vec::new();
@@ -165,6 +174,7 @@ fn positions() -> Vec<Case> {
     let mut cases = Vec::new();
     for at in (0..=image.len() as u16 + 2).chain([0x00FF, 0x0100, 0xFFFF]) {
         cases.extend([0, 1, USUAL_BUDGET].map(|budget| Case {
+            reading: reading::GIVEN,
             budget,
             at,
             bytes: image.clone(),
@@ -183,7 +193,12 @@ fn random_cases() -> Vec<Case> {
             0 => random.below(8) as u8,
             _ => random.byte(),
         };
-        Case { budget, at, bytes }
+        Case {
+            reading: reading::GIVEN,
+            budget,
+            at,
+            bytes,
+        }
     };
     (0..RANDOM_CASES).map(one).collect()
 }
@@ -212,8 +227,9 @@ mod tests {
     #[test]
     fn it_is_some_thousands_of_lines() {
         let lines: Vec<String> = all().iter().map(Case::line).collect();
-        assert!((3_000..=6_000).contains(&lines.len()), "{}", lines.len());
-        assert!(lines.concat().len() <= 460_000);
+        assert!((3_000..=7_000).contains(&lines.len()), "{}", lines.len());
+        assert!(lines.concat().len() < 600_000);
+        assert!(all().iter().all(|case| case.bytes.len() <= 512));
     }
 
     #[test]
@@ -221,6 +237,7 @@ mod tests {
         assert_eq!(values(&[record::OPERATION], false), (0..=96).collect());
         assert_eq!(values(&[record::REPEAT], false), (0..=2).collect());
         assert_eq!(values(&[record::REACH], false), (0..=2).collect());
+        assert_eq!(values(&[record::KEPT], false), (0..=4).collect());
         let kinds = (0..=12)
             .filter(|kind| *kind != record::DISPLACEMENT_NONE)
             .collect();
@@ -246,8 +263,9 @@ mod tests {
     #[test]
     fn the_first_lines_are_document_01s() {
         let lines: Vec<String> = all().iter().take(3).map(Case::line).collect();
-        assert_eq!(lines[0], format!("0F 0000 {:0<64} \n", "01"));
-        assert_eq!(lines[1], format!("0F 0000 {:0<64} F3\n", "010001000100"));
-        assert_eq!(lines[2], format!("0F 0000 {:0<64} 26\n", "092601000100"));
+        assert_eq!(lines[0], format!("01 0F 0000 {:0<64} \n", "01"));
+        let with_counts = |bytes, record| format!("01 0F 0000 {record:0<64} {bytes}\n");
+        assert_eq!(lines[1], with_counts("F3", "010001000100"));
+        assert_eq!(lines[2], with_counts("26", "092601000100"));
     }
 }

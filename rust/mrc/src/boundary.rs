@@ -76,6 +76,7 @@ mod exported {
             length: usize,
             position: usize,
             budget: u8,
+            reading: u8,
             record: *mut Record,
         );
         pub fn mrc_mrrm(bytes: *const u8, length: usize, position: usize, record: *mut Modrm);
@@ -83,11 +84,18 @@ mod exported {
         pub fn mrc_segment(field: u8) -> u32;
         pub fn mrc_addressing(field: u8) -> u32;
         pub fn mrc_operand_size(kind: u8, size: u8) -> u8;
-        pub fn mrc_step(bytes: *const u8, length: usize, position: usize, budget: u8) -> u64;
+        pub fn mrc_step(
+            bytes: *const u8,
+            length: usize,
+            position: usize,
+            budget: u8,
+            reading: u8,
+        ) -> u64;
         pub fn mrc_line(
             image: *const u8,
             length: usize,
             position: usize,
+            reading: u8,
             out: *mut u8,
             room: usize,
         ) -> u64;
@@ -95,6 +103,7 @@ mod exported {
             image: *const u8,
             length: usize,
             position: usize,
+            reading: u8,
             out: *mut u8,
             room: usize,
         ) -> u64;
@@ -102,10 +111,11 @@ mod exported {
 }
 
 #[inline]
-pub fn decode(bytes: &[u8], position: usize, budget: u8, record: &mut Record) {
+pub fn decode(bytes: &[u8], position: usize, budget: u8, reading: u8, record: &mut Record) {
+    let (input, length) = (bytes.as_ptr(), bytes.len());
     // SAFETY: the slice is valid for its length, and `record`, which has the size and the alignment of five machine words of
     // which any is a value, is lent to this call alone.
-    unsafe { exported::mrc_decode(bytes.as_ptr(), bytes.len(), position, budget, record) }
+    unsafe { exported::mrc_decode(input, length, position, budget, reading, record) }
 }
 
 #[inline]
@@ -139,23 +149,23 @@ pub fn operand_size(kind: u8, size: u8) -> u8 {
 }
 
 #[inline]
-pub fn line(image: &[u8], position: usize, out: &mut [u8]) -> u64 {
-    let (input, room) = (image.as_ptr(), out.len());
+pub fn line(image: &[u8], position: usize, reading: u8, out: &mut [u8]) -> u64 {
+    let (input, length, room) = (image.as_ptr(), image.len(), out.len());
     // SAFETY: both slices are valid for their lengths, and `out` is lent to this call alone.
-    unsafe { exported::mrc_line(input, image.len(), position, out.as_mut_ptr(), room) }
+    unsafe { exported::mrc_line(input, length, position, reading, out.as_mut_ptr(), room) }
 }
 
 /// The length of a page's text, and 2^32 times the bytes of the image that its lines account for.
 #[inline]
-pub fn page(image: &[u8], position: usize, out: &mut [u8]) -> u64 {
-    let (input, room) = (image.as_ptr(), out.len());
+pub fn page(image: &[u8], position: usize, reading: u8, out: &mut [u8]) -> u64 {
+    let (input, length, room) = (image.as_ptr(), image.len(), out.len());
     // SAFETY: as in `line`.
-    unsafe { exported::mrc_page(input, image.len(), position, out.as_mut_ptr(), room) }
+    unsafe { exported::mrc_page(input, length, position, reading, out.as_mut_ptr(), room) }
 }
 
 /// The bytes taken by a decode, 65,536 times its prefixes, and 2^32 times its refusal's number.
 #[inline]
-pub fn step(bytes: &[u8], position: usize, budget: u8) -> u64 {
+pub fn step(bytes: &[u8], position: usize, budget: u8, reading: u8) -> u64 {
     // SAFETY: the slice is valid for its length.
-    unsafe { exported::mrc_step(bytes.as_ptr(), bytes.len(), position, budget) }
+    unsafe { exported::mrc_step(bytes.as_ptr(), bytes.len(), position, budget, reading) }
 }

@@ -20,7 +20,7 @@ pub enum DecodeError {
     InvalidRegisterEncoding(u8),
     /// A segment field of 4 or more.
     InvalidSegmentEncoding(u8),
-    /// The first segment override, before bytes that are refused or have no operands.
+    /// The first segment override, before bytes that are refused, or that have no operands and do not keep it.
     InvalidPrefix(u8),
     /// The first prefix over the budget.
     TooManyPrefixes(u8),

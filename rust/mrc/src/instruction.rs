@@ -1,5 +1,5 @@
 use crate::coded::coded;
-use crate::{Operand, Operation};
+use crate::{Operand, Operation, Segment};
 use std::fmt::{self, Display, Formatter};
 
 /// The operands of an instruction, the destination before the source.
@@ -69,10 +69,13 @@ pub struct Instruction {
     pub repeat: Option<Repeat>,
     /// Whether it is near, far or neither, which mrc_instruction does not tell.
     pub reach: Reach,
+    /// The segment of an override before MOVS, CMPS, LODS or XLATB, which have no operand, in
+    /// [`Reading::Two`](crate::Reading::Two). DS differs from none.
+    pub kept: Option<Segment>,
 }
 
 impl Instruction {
-    /// The instruction with no repeat, neither near nor far.
+    /// The instruction with no repeat and no override kept, neither near nor far.
     #[must_use]
     pub fn new(operation: Operation, operands: OperandSet) -> Self {
         Self {
@@ -80,10 +83,11 @@ impl Instruction {
             operands,
             repeat: None,
             reach: Reach::Neither,
+            kept: None,
         }
     }
 
-    /// The instruction with a repeat, neither near nor far.
+    /// The instruction with a repeat and no override kept, neither near nor far.
     #[must_use]
     pub fn with_repeat(repeat: Repeat, operation: Operation, operands: OperandSet) -> Self {
         Self {
@@ -96,5 +100,11 @@ impl Instruction {
     #[must_use]
     pub fn reaching(self, reach: Reach) -> Self {
         Self { reach, ..self }
+    }
+
+    /// The same instruction, with an override that is kept, or none.
+    #[must_use]
+    pub fn keeping(self, kept: Option<Segment>) -> Self {
+        Self { kept, ..self }
     }
 }

@@ -1,11 +1,11 @@
-use crate::{boundary, DecodeError, Result};
+use crate::{boundary, DecodeError, Reading, Result};
 use std::fmt::{self, Display, Formatter};
 use std::iter::FusedIterator;
 
 /// The most bytes that an image has: one for each offset.
 pub const LONGEST_IMAGE: usize = 65_536;
 /// The most bytes that a line has, its LF included.
-pub const LONGEST_LINE: usize = 89;
+pub const LONGEST_LINE: usize = 93;
 
 /// What a line call wrote.
 #[derive(Clone, Copy, Debug, PartialEq, Eq, Hash)]
@@ -32,14 +32,7 @@ pub struct Written {
 /// # mrc::Result::Ok(())
 /// ```
 pub fn line(image: &[u8], position: usize, out: &mut [u8]) -> Result<Written> {
-    let answer = boundary::line(image, position, out);
-    match (answer >> 32) as u8 {
-        0 => Ok(Written {
-            length: usize::from(answer as u16),
-            taken: usize::from((answer >> 16) as u16),
-        }),
-        number => Err(DecodeError::from_number(number, 0)),
-    }
+    Reading::One.line(image, position, out)
 }
 
 /// A listing line, as the line call writes it, with its LF.
@@ -69,9 +62,32 @@ impl Display for Line {
 /// # mrc::Result::Ok(())
 /// ```
 pub fn lines(image: &[u8]) -> Result<Lines<'_>> {
-    match line(image, image.len(), &mut []) {
-        Err(DecodeError::ImageTooLong) => Err(DecodeError::ImageTooLong),
-        _ => Ok(Lines { image, start: 0 }),
+    Reading::One.lines(image)
+}
+
+impl Reading {
+    /// Writes the listing line at a position in this reading, as [`line`] does in the first.
+    pub fn line(self, image: &[u8], position: usize, out: &mut [u8]) -> Result<Written> {
+        let answer = boundary::line(image, position, self.number(), out);
+        match (answer >> 32) as u8 {
+            0 => Ok(Written {
+                length: usize::from(answer as u16),
+                taken: usize::from((answer >> 16) as u16),
+            }),
+            number => Err(DecodeError::from_number(number, 0)),
+        }
+    }
+
+    /// The lines of an image in this reading, as [`lines`] has them in the first.
+    pub fn lines(self, image: &[u8]) -> Result<Lines<'_>> {
+        match self.line(image, image.len(), &mut []) {
+            Err(DecodeError::ImageTooLong) => Err(DecodeError::ImageTooLong),
+            _ => Ok(Lines {
+                reading: self,
+                image,
+                start: 0,
+            }),
+        }
     }
 }
 
@@ -79,6 +95,7 @@ pub fn lines(image: &[u8]) -> Result<Lines<'_>> {
 #[derive(Clone, Debug)]
 #[must_use = "an iterator lists nothing until it is asked"]
 pub struct Lines<'a> {
+    reading: Reading,
     image: &'a [u8],
     start: usize,
 }
@@ -88,7 +105,7 @@ impl Iterator for Lines<'_> {
 
     fn next(&mut self) -> Option<Line> {
         let mut out = [0; LONGEST_LINE];
-        let written = match line(self.image, self.start, &mut out) {
+        let written = match self.reading.line(self.image, self.start, &mut out) {
             Ok(written) => written,
             Err(DecodeError::EndOfInput) => return None,
             Err(refusal) => panic!("a line within the image is refused: {refusal}"),

@@ -1,4 +1,4 @@
-use crate::boundary;
+use crate::{boundary, Reading};
 
 /// What a page call wrote.
 #[derive(Clone, Copy, Debug, PartialEq, Eq, Hash)]
@@ -25,9 +25,16 @@ pub struct Page {
 /// assert_eq!(page.taken, 3);
 /// ```
 pub fn page(image: &[u8], position: usize, out: &mut [u8]) -> Page {
-    let answer = boundary::page(image, position, out);
-    Page {
-        length: (answer & 0xFFFF_FFFF) as usize,
-        taken: (answer >> 32) as usize,
+    Reading::One.page(image, position, out)
+}
+
+impl Reading {
+    /// Writes listing lines in this reading, as [`page`] does in the first.
+    pub fn page(self, image: &[u8], position: usize, out: &mut [u8]) -> Page {
+        let answer = boundary::page(image, position, self.number(), out);
+        Page {
+            length: (answer & 0xFFFF_FFFF) as usize,
+            taken: (answer >> 32) as usize,
+        }
     }
 }

@@ -1,14 +1,14 @@
 use crate::operand::Kind;
 use crate::{
     boundary, Address, AddressingMode, DecodeError, Displacement, Immediate, Instruction, Operand,
-    OperandSet, OperandSize, Operation, Reach, RegisterEncoding, Repeat, Result, Segment,
+    OperandSet, OperandSize, Operation, Reach, Reading, RegisterEncoding, Repeat, Result, Segment,
     SizedRegisterEncoding,
 };
 
 /// A decode's answer as the proved library writes it, from which each field is read by itself: cheaper than the whole
 /// [`Answer`](crate::Answer) where not all of it is wanted.
 ///
-/// A refusal has no operation, no repeat and no operand, and is neither near nor far.
+/// A refusal has no operation, no repeat and no operand, is neither near nor far, and keeps no override.
 #[derive(Clone, Copy, Debug, PartialEq, Eq, Hash)]
 #[must_use]
 pub struct Record(boundary::Record);
@@ -25,9 +25,17 @@ pub struct Record(boundary::Record);
 /// ```
 #[inline]
 pub fn record_at(bytes: &[u8], position: usize, budget: u8) -> Record {
-    let mut record = Record(boundary::Record::default());
-    boundary::decode(bytes, position, budget, &mut record.0);
-    record
+    Reading::One.record_at(bytes, position, budget)
+}
+
+impl Reading {
+    /// Decodes the instruction at a position in this reading, as [`record_at`] does in the first.
+    #[inline]
+    pub fn record_at(self, bytes: &[u8], position: usize, budget: u8) -> Record {
+        let mut record = Record(boundary::Record::default());
+        boundary::decode(bytes, position, budget, self.number(), &mut record.0);
+        record
+    }
 }
 
 impl Record {
@@ -41,6 +49,7 @@ impl Record {
                 operands: self.operand_set(),
                 repeat: self.repeat(),
                 reach: self.reach(),
+                kept: self.kept(),
             }),
         }
     }
@@ -96,6 +105,17 @@ impl Record {
     #[must_use]
     pub fn reach(&self) -> Reach {
         Reach::from_code(self.0.reach)
+    }
+
+    /// The segment of the first override, where the instruction has no operand that it is for and keeps it: MOVS, CMPS, LODS
+    /// and XLATB in [`Reading::Two`]. DS differs from none.
+    #[inline]
+    #[must_use]
+    pub fn kept(&self) -> Option<Segment> {
+        match self.0.kept {
+            0 => None,
+            kept => Some(Segment::from_code(kept - 1)),
+        }
     }
 
     /// How many operands the instruction has.

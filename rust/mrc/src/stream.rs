@@ -1,4 +1,4 @@
-use crate::{boundary, decode_at, DecodeError, Instruction, Result};
+use crate::{boundary, DecodeError, Instruction, Reading, Result};
 
 /// The most prefixes that `decode_instruction` reads; one more is refused.
 pub const LARGEST_BUDGET: u8 = 255;
@@ -9,7 +9,7 @@ const MOST_TAKEN: usize = LARGEST_BUDGET as usize + 6;
 /// Decodes the instruction at the front of an iterator, and takes just the bytes that make the answer. An iterator that has
 /// ended is not asked again.
 ///
-/// The answer is that of [`decode_at`] on the same bytes with [`LARGEST_BUDGET`], and it takes as much of the stack.
+/// The answer is that of [`decode_at`](crate::decode_at) on the same bytes with [`LARGEST_BUDGET`], and it takes as much of the stack.
 ///
 /// ```
 /// let mut bytes = [0x8B, 0x07, 0x90].into_iter();
@@ -19,18 +19,34 @@ const MOST_TAKEN: usize = LARGEST_BUDGET as usize + 6;
 /// # mrc::Result::Ok(())
 /// ```
 pub fn decode_instruction(it: &mut impl Iterator<Item = u8>) -> Result<Instruction> {
-    let mut bytes = [0; MOST_TAKEN];
-    let (mut taken, mut prefixes) = (0, 0);
-    for byte in it {
-        bytes[taken] = byte;
-        taken += 1;
-        match front_of(&bytes[prefixes..taken]) {
-            Front::Prefix if prefixes < usize::from(LARGEST_BUDGET) => prefixes += 1,
-            Front::Prefix | Front::Whole => break,
-            Front::CutShort => {}
+    Reading::One.decode_instruction(it)
+}
+
+impl Reading {
+    /// Decodes the instruction at the front of an iterator in this reading, as [`decode_instruction`] does in the first.
+    pub fn decode_instruction(self, it: &mut impl Iterator<Item = u8>) -> Result<Instruction> {
+        let mut bytes = [0; MOST_TAKEN];
+        let (mut taken, mut prefixes) = (0, 0);
+        for byte in it {
+            bytes[taken] = byte;
+            taken += 1;
+            match self.front_of(&bytes[prefixes..taken]) {
+                Front::Prefix if prefixes < usize::from(LARGEST_BUDGET) => prefixes += 1,
+                Front::Prefix | Front::Whole => break,
+                Front::CutShort => {}
+            }
+        }
+        self.decode_at(&bytes[..taken], 0, LARGEST_BUDGET).result
+    }
+
+    /// With a budget of 0 a prefix is one too many.
+    fn front_of(self, bytes: &[u8]) -> Front {
+        match (boundary::step(bytes, 0, 0, self.number()) >> 32) as u8 {
+            PREFIX => Front::Prefix,
+            NO_MORE => Front::CutShort,
+            _ => Front::Whole,
         }
     }
-    decode_at(&bytes[..taken], 0, LARGEST_BUDGET).result
 }
 
 /// What stands at the front of some bytes, of which there is one at least.
@@ -43,12 +59,3 @@ enum Front {
 
 const PREFIX: u8 = DecodeError::TooManyPrefixes(0).number();
 const NO_MORE: u8 = DecodeError::CouldNotReadExtraBytes.number();
-
-/// With a budget of 0 a prefix is one too many.
-fn front_of(bytes: &[u8]) -> Front {
-    match (boundary::step(bytes, 0, 0) >> 32) as u8 {
-        PREFIX => Front::Prefix,
-        NO_MORE => Front::CutShort,
-        _ => Front::Whole,
-    }
-}

@@ -1,5 +1,6 @@
 //! The header and the example from C: built with `cc`, and run.
 
+use mrc::Reading;
 use std::fs::{self, File};
 use std::path::{Path, PathBuf};
 use std::process::{Command, Output};
@@ -31,9 +32,10 @@ fn built(source: PathBuf, name: &str) -> PathBuf {
     program
 }
 
-fn run(program: &Path, image: &Path) -> Output {
+fn run(program: &Path, words: &[&str], image: &Path) -> Output {
     let mut command = Command::new(program);
-    command.arg(image).output().expect("the program runs")
+    let output = command.args(words).arg(image).output();
+    output.expect("the program runs")
 }
 
 #[test]
@@ -61,11 +63,54 @@ fn the_example_lists_a_file() {
     for length in [0, 13, LONGEST_IMAGE] {
         let image = scratch(&format!("{length}.bin"));
         fs::write(&image, &bytes[..length]).expect("an image");
-        let output = run(&program, &image);
-        let lines = mrc::lines(&bytes[..length]).expect("lines");
-        let expected: String = lines.map(|line| line.text).collect();
-        assert!(output.status.success());
-        assert!(output.stdout == expected.as_bytes(), "{length} bytes");
+        for (words, reading) in [
+            (&[][..], Reading::One),
+            (&["--reading", "1"], Reading::One),
+            (&["--reading", "2"], Reading::Two),
+        ] {
+            let output = run(&program, words, &image);
+            let lines = reading.lines(&bytes[..length]).expect("lines");
+            let expected: String = lines.map(|line| line.text).collect();
+            assert!(output.status.success());
+            assert!(
+                output.stdout == expected.as_bytes(),
+                "{length} bytes, {words:?}"
+            );
+        }
+    }
+}
+
+#[test]
+fn the_example_says_in_one_line_what_it_does_not_know() {
+    let program = built(root().join("examples/list.c"), "list-unknown");
+    let image = scratch("known.bin");
+    fs::write(&image, [0x90]).expect("an image");
+    let usage = "list: usage: list [--reading 1|2] IMAGE\n";
+    for (words, expected) in [
+        (
+            &["--reading", "3"][..],
+            "list: 3: no reading; there are 1 and 2\n",
+        ),
+        (
+            &["--reading", ""],
+            "list: : no reading; there are 1 and 2\n",
+        ),
+        (
+            &["--reading", "02"],
+            "list: 02: no reading; there are 1 and 2\n",
+        ),
+        (&["--reading"], usage),
+        (&["--readings", "2"], usage),
+        (&["2"], usage),
+    ] {
+        let output = run(&program, words, &image);
+        assert_eq!(output.status.code(), Some(1), "{words:?}");
+        assert!(output.stdout.is_empty(), "{words:?}");
+        assert_eq!(
+            String::from_utf8_lossy(&output.stderr),
+            expected,
+            "{words:?}"
+        );
     }
 }
 
@@ -75,7 +120,7 @@ fn the_example_says_in_one_line_what_it_cannot_list() {
     let too_long = scratch("too-long.bin");
     fs::write(&too_long, vec![0; LONGEST_IMAGE + 1]).expect("an image");
     for image in [too_long, scratch("missing.bin")] {
-        let output = run(&program, &image);
+        let output = run(&program, &[], &image);
         assert_eq!(output.status.code(), Some(1));
         assert!(output.stdout.is_empty());
         let said = String::from_utf8_lossy(&output.stderr);

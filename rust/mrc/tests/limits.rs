@@ -29,13 +29,13 @@ fn nothing_lent() {
     );
     let refusal = DecodeError::CouldNotReadExtraBytes;
     assert_eq!(read_mrrm(&[], 0).result, Err(refusal));
-    assert_eq!(boundary::step(&[], 0, 255), 1 << 32);
-    assert_eq!(boundary::step(&[], 1, 255), 11 << 32);
+    assert_eq!(boundary::step(&[], 0, 255, 1), 1 << 32);
+    assert_eq!(boundary::step(&[], 1, 255, 1), 11 << 32);
     assert_eq!(line(&[], 0, &mut []), Err(DecodeError::EndOfInput));
     assert_eq!(line(&[], 1, &mut []), Err(DecodeError::OutsideInput));
     assert_eq!(line(&[0x90], 0, &mut []), Err(DecodeError::NoRoom));
-    assert_eq!(boundary::page(&[], 0, &mut []), 0);
-    assert_eq!(boundary::page(&[0x90], 0, &mut []), 0);
+    assert_eq!(boundary::page(&[], 0, 1, &mut []), 0);
+    assert_eq!(boundary::page(&[0x90], 0, 1, &mut []), 0);
 }
 
 #[test]
@@ -53,10 +53,10 @@ fn is_outside(bytes: &[u8], position: usize) {
     assert_eq!((answer.taken, answer.prefixes), (0, 0), "{position}");
     let answer = read_mrrm(bytes, position);
     assert_eq!((answer.result, answer.taken), (Err(refusal), 0));
-    assert_eq!(boundary::step(bytes, position, 15), 11 << 32);
+    assert_eq!(boundary::step(bytes, position, 15, 1), 11 << 32);
     let mut out = [0xA5; LONGEST_LINE];
     assert_eq!(line(bytes, position, &mut out), Err(refusal));
-    assert_eq!(boundary::page(bytes, position, &mut out), 0);
+    assert_eq!(boundary::page(bytes, position, 1, &mut out), 0);
     assert_eq!(out, [0xA5; LONGEST_LINE]);
 }
 
@@ -75,7 +75,7 @@ fn reads_its_last_instruction(bytes: &[u8], last: usize) {
     let operation = answer.result.map(|read| read.operation);
     assert_eq!(operation, Ok(Operation::MOVSB));
     assert_eq!((answer.taken, answer.prefixes), (2, 1));
-    assert_eq!(boundary::step(bytes, last, 15), 2 + (1 << 16));
+    assert_eq!(boundary::step(bytes, last, 15, 1), 2 + (1 << 16));
     let refused = |position| decode_at(bytes, position, 15).result;
     assert_eq!(refused(last + 2), Err(DecodeError::EndOfInput));
     assert_eq!(refused(last + 3), Err(DecodeError::OutsideInput));
@@ -89,7 +89,7 @@ fn is_too_long(image: &[u8]) {
         let mut out = [0xA5; LONGEST_LINE];
         let answer = line(image, position, &mut out);
         assert_eq!(answer, Err(DecodeError::ImageTooLong));
-        assert_eq!(boundary::page(image, position, &mut out), 0);
+        assert_eq!(boundary::page(image, position, 1, &mut out), 0);
         assert_eq!(out, [0xA5; LONGEST_LINE]);
     }
 }

@@ -132,7 +132,7 @@ fn a_refusal_has_its_byte_and_counts_and_nothing_else() {
     assert_eq!(record.result(), Err(refusal));
     assert_eq!((record.taken(), record.prefixes()), (2, 2));
     assert_eq!((record.operation(), record.repeat()), (None, None));
-    assert_eq!(record.reach(), Reach::Neither);
+    assert_eq!((record.reach(), record.kept()), (Reach::Neither, None));
     assert_eq!(record.operands(), 0);
     assert_eq!((record.destination(), record.source()), (None, None));
 }

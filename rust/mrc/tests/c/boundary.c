@@ -60,16 +60,22 @@ static void same(const char *what, struct mrc_operand operand, struct mrc_operan
 static const struct mrc_operand absent;
 
 /* Every byte of the record is written, whatever it held. */
-static struct mrc_record decoded(const uint8_t *bytes, size_t length, uint8_t budget)
+static struct mrc_record read(const uint8_t *bytes, size_t length, uint8_t budget, uint8_t reading)
 {
     struct mrc_record record;
     memset(&record, 0xA5, sizeof record);
-    mrc_decode(bytes, length, 0, budget, &record);
+    mrc_decode(bytes, length, 0, budget, reading, &record);
     expect("what is reserved", record.reserved, 0);
-    expect("kept", record.kept, 0);
     expect("written", record.written, 0);
     expect("what is reserved", record.reserved_2[0] + record.reserved_2[1], 0);
     same("third operand", record.operand[MRC_THIRD], absent);
+    return record;
+}
+
+static struct mrc_record decoded(const uint8_t *bytes, size_t length, uint8_t budget)
+{
+    struct mrc_record record = read(bytes, length, budget, MRC_READING_1);
+    expect("kept", record.kept, MRC_NOTHING_KEPT);
     return record;
 }
 
@@ -164,27 +170,31 @@ static void line(void)
     const uint8_t image[] = {0x90, 0xF3, 0xA4};
     const char expected[] = "0001  F3 A4                  REPE MOVSB\n";
     uint8_t out[MRC_LONGEST_LINE];
-    uint64_t answer = mrc_line(image, sizeof image, 1, out, sizeof out);
+    uint64_t answer = mrc_line(image, sizeof image, 1, MRC_READING_1, out, sizeof out);
     expect("length of a line", mrc_line_length(answer), strlen(expected));
     expect("taken by a line", mrc_line_taken(answer), 2);
     expect("line", (uint64_t)memcmp(out, expected, strlen(expected)), 0);
-    answer = mrc_line(image, sizeof image, sizeof image, out, sizeof out);
+    answer = mrc_line(image, sizeof image, sizeof image, MRC_READING_1, out, sizeof out);
     expect("refused line", mrc_line_refusal(answer), MRC_END_OF_INPUT);
 }
 
-/* What a return counts is its own word, wherever it stands: in the record a displacement, in the line four digits. */
+/* What a return counts is its own word, wherever it stands: in the record a displacement, in the second reading an immediate, in the line
+ * four digits. */
 static void counted_return(void)
 {
     uint8_t image[0x103];
     memset(image, 0x90, sizeof image);
     memcpy(image + 0x100, "\xC2\xFC\xFF", 3);
     struct mrc_record record;
-    mrc_decode(image, sizeof image, 0x100, 15, &record);
+    mrc_decode(image, sizeof image, 0x100, 15, MRC_READING_1, &record);
     expect("kind of a counted return", record.operand[MRC_DESTINATION].kind, MRC_DISPLACEMENT_WORD);
     expect("count of a return", record.operand[MRC_DESTINATION].value, 0xFFFC);
+    mrc_decode(image, sizeof image, 0x100, 15, MRC_READING_2, &record);
+    expect("kind in the second reading", record.operand[MRC_DESTINATION].kind, MRC_IMMEDIATE_WORD);
+    expect("count in the second reading", record.operand[MRC_DESTINATION].value, 0xFFFC);
     const char expected[] = "0100  C2 FC FF               RET FFFC\n";
     uint8_t out[MRC_LONGEST_LINE];
-    uint64_t answer = mrc_line(image, sizeof image, 0x100, out, sizeof out);
+    uint64_t answer = mrc_line(image, sizeof image, 0x100, MRC_READING_1, out, sizeof out);
     expect("length of a counted return", mrc_line_length(answer), strlen(expected));
     expect("line of a counted return", (uint64_t)memcmp(out, expected, strlen(expected)), 0);
 }
@@ -196,12 +206,12 @@ static void page(void)
     const char first[] = "0000  90                     NOP\n";
     uint8_t out[40];
     memset(out, 0xA5, sizeof out);
-    uint64_t answer = mrc_page(image, sizeof image, 0, out, sizeof out);
+    uint64_t answer = mrc_page(image, sizeof image, 0, MRC_READING_1, out, sizeof out);
     expect("length of a page", mrc_page_length(answer), strlen(first));
     expect("taken by a page", mrc_page_taken(answer), 1);
     expect("page", (uint64_t)memcmp(out, first, strlen(first)), 0);
     expect("behind a page", out[strlen(first)], 0xA5);
-    expect("page at the end", mrc_page(image, sizeof image, sizeof image, out, sizeof out), 0);
+    expect("page at the end", mrc_page(image, sizeof image, sizeof image, MRC_READING_1, out, sizeof out), 0);
 }
 
 /* A pointer whose length is 0 is not followed. */
@@ -209,24 +219,69 @@ static void nothing_lent(void)
 {
     expect("refusal of nothing", decoded(NULL, 0, 15).refusal, MRC_END_OF_INPUT);
     struct mrc_record record;
-    mrc_decode(NULL, 0, SIZE_MAX, 15, &record);
+    mrc_decode(NULL, 0, SIZE_MAX, 15, MRC_READING_1, &record);
     expect("refusal outside of nothing", record.refusal, MRC_OUTSIDE_INPUT);
     struct mrc_modrm modrm;
     mrc_mrrm(NULL, 0, 0, &modrm);
     expect("refusal of no ModRM", modrm.refusal, MRC_COULD_NOT_READ_EXTRA_BYTES);
-    expect("step of nothing", mrc_step(NULL, 0, 0, 15) >> 32, MRC_END_OF_INPUT);
-    expect("line of nothing", mrc_line_refusal(mrc_line(NULL, 0, 0, NULL, 0)), MRC_END_OF_INPUT);
+    expect("step of nothing", mrc_step(NULL, 0, 0, 15, MRC_READING_1) >> 32, MRC_END_OF_INPUT);
+    expect("line of nothing", mrc_line_refusal(mrc_line(NULL, 0, 0, MRC_READING_1, NULL, 0)), MRC_END_OF_INPUT);
     const uint8_t nop[] = {0x90};
-    expect("line into nothing", mrc_line_refusal(mrc_line(nop, sizeof nop, 0, NULL, 0)), MRC_NO_ROOM);
-    expect("page of nothing", mrc_page(NULL, 0, 0, NULL, 0), 0);
-    expect("page into nothing", mrc_page(nop, sizeof nop, 0, NULL, 0), 0);
+    expect("line into nothing", mrc_line_refusal(mrc_line(nop, sizeof nop, 0, MRC_READING_1, NULL, 0)), MRC_NO_ROOM);
+    expect("page of nothing", mrc_page(NULL, 0, 0, MRC_READING_1, NULL, 0), 0);
+    expect("page into nothing", mrc_page(nop, sizeof nop, 0, MRC_READING_1, NULL, 0), 0);
 }
 
 static void step(void)
 {
     const uint8_t bytes[] = {0x26, 0x8B, 0x47, 0xFE};
-    expect("step", mrc_step(bytes, sizeof bytes, 0, 15), 4 + 65536 * 1);
-    expect("refused step", mrc_step(bytes, sizeof bytes, 0, 0), 1 + 65536 * 1 + ((uint64_t)MRC_TOO_MANY_PREFIXES << 32));
+    expect("step", mrc_step(bytes, sizeof bytes, 0, 15, MRC_READING_1), 4 + 65536 * 1);
+    expect("refused step", mrc_step(bytes, sizeof bytes, 0, 0, MRC_READING_1), 1 + 65536 * 1 + ((uint64_t)MRC_TOO_MANY_PREFIXES << 32));
+}
+
+static void lists(const uint8_t *image, size_t length, uint8_t reading, const char *expected)
+{
+    uint8_t out[MRC_LONGEST_LINE];
+    uint64_t answer = mrc_line(image, length, 0, reading, out, sizeof out);
+    expect("length of a line in a reading", mrc_line_length(answer), strlen(expected));
+    expect(expected, (uint64_t)memcmp(out, expected, strlen(expected)), 0);
+    answer = mrc_page(image, length, 0, reading, out, strlen(expected));
+    expect("length of a page in a reading", mrc_page_length(answer), strlen(expected));
+    expect(expected, (uint64_t)memcmp(out, expected, strlen(expected)), 0);
+}
+
+/* 26 A4 is refused in the first reading and keeps ES in the second. */
+static void kept(void)
+{
+    const uint8_t move[] = {0x26, 0xA4};
+    expect("refused override", decoded(move, sizeof move, 15).refusal, MRC_INVALID_PREFIX);
+    struct mrc_record record = read(move, sizeof move, 15, MRC_READING_2);
+    expect("refusal of a kept override", record.refusal, MRC_NOT_REFUSED);
+    expect("kept", record.kept, MRC_KEPT_ES);
+    expect("kept is a segment and one", record.kept, MRC_ES + 1);
+    expect("no operand beside what is kept", record.operands, 0);
+    lists(move, sizeof move, MRC_READING_1, "0000  26                     DB 26\n");
+    lists(move, sizeof move, MRC_READING_2, "0000  26 A4                  ES: MOVSB\n");
+    const uint8_t of_ds[] = {0x3E, 0xA4};
+    expect("DS is kept", read(of_ds, sizeof of_ds, 15, MRC_READING_2).kept, MRC_KEPT_DS);
+    expect("nothing is kept", read(of_ds + 1, 1, 15, MRC_READING_2).kept, MRC_NOTHING_KEPT);
+}
+
+/* 83 C0 FF extends its sign in the second reading, and D8 46 02 takes its displacement. */
+static void readings(void)
+{
+    const uint8_t add[] = {0x83, 0xC0, 0xFF};
+    const uint8_t esc[] = {0xD8, 0x46, 0x02};
+    const uint8_t firsts[] = {0, MRC_READING_1, 3, 255};
+    for (size_t i = 0; i < sizeof firsts; i++) {
+        expect("first reading", read(add, sizeof add, 15, firsts[i]).operand[MRC_SOURCE].value, 0x00FF);
+        expect("step in the first", mrc_step(esc, sizeof esc, 0, 15, firsts[i]), 2);
+        lists(add, sizeof add, firsts[i], "0000  83 C0 FF               ADD AX, 00FF\n");
+    }
+    expect("second reading", read(add, sizeof add, 15, MRC_READING_2).operand[MRC_SOURCE].value, 0xFFFF);
+    expect("step in the second", mrc_step(esc, sizeof esc, 0, 15, MRC_READING_2), 3);
+    lists(add, sizeof add, MRC_READING_2, "0000  83 C0 FF               ADD AX, FFFF\n");
+    lists(esc, sizeof esc, MRC_READING_2, "0000  D8 46 02               ESC WORD SS:[BP+02]\n");
 }
 
 int main(void)
@@ -241,6 +296,8 @@ int main(void)
     counted_return();
     page();
     step();
+    kept();
+    readings();
     nothing_lent();
     return failures != 0;
 }

@@ -17,26 +17,33 @@ enum { GUARD = 4096, PAINT = 0xA5, USUAL = 15, LARGEST = 255, LONGEST_RUN = LARG
 static uint8_t bytes[LONGEST_RUN + 6];
 static size_t length;
 static uint8_t budget;
+static uint8_t reading;
 static struct mrc_record record;
 static uint8_t out[MRC_LONGEST_LINE];
 static uint8_t large[8192];
 
-static void decode(void) { mrc_decode(bytes, length, 0, budget, &record); }
-static void step(void) { mrc_step(bytes, length, 0, budget); }
-static void line(void) { mrc_line(bytes, length, 0, out, sizeof out); }
-static void line_without_room(void) { mrc_line(bytes, length, 0, out, 1); }
+static void decode(void) { mrc_decode(bytes, length, 0, budget, reading, &record); }
+static void step(void) { mrc_step(bytes, length, 0, budget, reading); }
+static void line(void) { mrc_line(bytes, length, 0, reading, out, sizeof out); }
+static void line_without_room(void) { mrc_line(bytes, length, 0, reading, out, 1); }
 
-static void page(void) { mrc_page(bytes, length, 0, large, sizeof large); }
-static void page_of_one_line(void) { mrc_page(bytes, length, 0, out, sizeof out); }
+static void page(void) { mrc_page(bytes, length, 0, reading, large, sizeof large); }
+static void page_of_one_line(void) { mrc_page(bytes, length, 0, reading, out, sizeof out); }
 
-/* As many prefixes, and behind them the longest instruction. */
-static void fill(size_t prefixes)
+/* The longest instruction, one that keeps an override in the second reading, and one that has its operand there alone. */
+static const uint8_t add[] = {0x81, 0x80, 0x34, 0x12, 0x78, 0x56};
+static const uint8_t move[] = {0xA4};
+static const uint8_t esc[] = {0xDF, 0xBE, 0x34, 0x12};
+static const struct { const uint8_t *bytes; size_t length; } tails[] = {{add, sizeof add}, {move, sizeof move}, {esc, sizeof esc}};
+enum { TAILS = sizeof tails / sizeof tails[0] };
+
+/* As many prefixes, and a tail behind them. */
+static void fill(size_t prefixes, size_t tail)
 {
-    const uint8_t add[] = {0x81, 0x80, 0x34, 0x12, 0x78, 0x56};
     for (size_t i = 0; i < prefixes; i++)
         bytes[i] = i % 2 == 0 ? 0x26 : 0xF3;
-    memcpy(bytes + prefixes, add, sizeof add);
-    length = prefixes + sizeof add;
+    memcpy(bytes + prefixes, tails[tail].bytes, tails[tail].length);
+    length = prefixes + tails[tail].length;
 }
 
 static uint8_t *stack_above_a_guard(size_t size)
@@ -96,16 +103,16 @@ static void run(const char *what, void (*call)(void), uint8_t with_budget, size_
 {
     size_t most = 0;
     budget = with_budget;
-    for (size_t prefixes = 0; prefixes <= (size_t)with_budget + 1; prefixes++) {
-        fill(prefixes);
+    for (size_t i = 0; i < TAILS * ((size_t)with_budget + 2); i++) {
+        fill(i / TAILS, i % TAILS);
         size_t now = reached(call, size);
         most = now > most ? now : most;
         in_a_thread(call, size);
     }
-    printf("%s, budget %d: %zu of %zu bytes\n", what, with_budget, most, size);
+    printf("%s, budget %d, reading %d: %zu of %zu bytes\n", what, with_budget, reading, most, size);
 }
 
-int main(void)
+static void run_each(void)
 {
     run("decode", decode, USUAL, MRC_STACK_USUAL);
     run("step", step, USUAL, MRC_STACK_USUAL);
@@ -115,5 +122,11 @@ int main(void)
     run("page of one line", page_of_one_line, USUAL, MRC_STACK_USUAL);
     run("decode", decode, LARGEST, MRC_STACK_LARGEST);
     run("step", step, LARGEST, MRC_STACK_LARGEST);
+}
+
+int main(void)
+{
+    for (reading = MRC_READING_1; reading <= MRC_READING_2; reading++)
+        run_each();
     return 0;
 }
