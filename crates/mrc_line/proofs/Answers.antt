@@ -8,7 +8,8 @@ use native.Mathlib.Omega.{arith}
 use lib.Arith.{lt-of-le-ne}
 use borrow.Author.Tests.{ltb-true, ltb-false, lt-ltb, le-ltb, eq-eqb, ne-eqb, eqb-false}
 use lib.Dec.{ltb, eqb}
-use lib.ListN.{length, drop, take-append-drop}
+use lib.ListN.{length, take, drop, take-append-drop}
+use lib.Seq.{take-at}
 use Rattle.mrc_instruction.specs.declared.reading.Reading.{Reading}
 use Rattle.mrc_instruction.specs.declared.errors.Refusal.{Refusal}
 use Rattle.mrc_instruction.specs.declared.errors.Refusal.the-variants.{ImageTooLong, OutsideInput, EndOfInput, NoRoom}
@@ -115,3 +116,9 @@ module _ (x : Reading) where
   lacks s at room e h k p =
       lacks-by s at room e (ltb room (length (lineText x s at))) (λ d. ltb-true room (length (lineText x s at)) d)
       (p ∙ simp (le-ltb offsets (length s) h, le-ltb (length s) at (omega arith), ne-eqb (length s) at (λ e. omega arith)))
+
+  -- of a buffer in which a line stands, so many bytes are the line
+  pub line-held : {s : List ℕ} {at : ℕ} {out : List ℕ} {len taken : ℕ} {done : List ℕ} → Listed x s at out (Line len taken) done → take len done ≡ lineText x s at
+  line-held {s} {at} {out} {len} {taken} l =
+      ap (take len) (l .bytes ∙ sym (ap (λ a. after a (lineText x s at) out) (l .answer)))
+      ∙ take-at (lineText x s at) (drop len out) len (sym (told s at (length out) len taken (l .answer) .len-is))

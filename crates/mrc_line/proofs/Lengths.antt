@@ -25,7 +25,7 @@ use Rattle.mrc_instruction.specs.declared.instruction.Kept.{Kept}
 use Rattle.mrc_instruction.specs.declared.instruction.Reach.{Reach}
 use Rattle.mrc_instruction.specs.declared.operation.Operation.{Operation}
 use Rattle.mrc_names.specs.Names.{nameOf}
-use Rattle.mrc_names.proofs.Rows.{short}
+use Rattle.mrc_names.proofs.Tiles.{six-at-most}
 use Rattle.mrc_rules.specs.declared.Answer.{Answer}
 use Rattle.mrc_rules.specs.Decode.{decodeAt}
 use Rattle.mrc_line.specs.Text.{bytes, hex4, pairs, padded, shown, fieldWidth}
@@ -135,7 +135,7 @@ body start b (Answer.Decoded i n p) =
     let f = reachText (i .reach) in
     let m = nameOf (i .operation) in
     let k = keptText (i .kept) in
-    omega (arith, repeated (i .repeat), kept (i .kept), short (i .operation), reach (i .reach), operands (i .operation) start n (i .operands), length-append (repeatText (i .repeat)) (k ++ (m ++ (f ++ o))), length-append k (m ++ (f ++ o)), length-append m (f ++ o), length-append f o)
+    omega (arith, repeated (i .repeat), kept (i .kept), six-at-most (i .operation), reach (i .reach), operands (i .operation) start n (i .operands), length-append (repeatText (i .repeat)) (k ++ (m ++ (f ++ o))), length-append k (m ++ (f ++ o)), length-append m (f ++ o), length-append f o)
 body start b (Answer.Refused e n p) = lit≤ tt
 
 step : (s : List ℕ) (at : ℕ) (a : Answer) → length (stepText s at a) ≤ longest

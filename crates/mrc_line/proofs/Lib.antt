@@ -1,4 +1,5 @@
 pub mod Put
+pub mod Parts
 pub mod Magnitudes
 pub mod Takes
 pub mod Lines
@@ -6,6 +7,7 @@ pub mod Pages
 pub mod Lengths
 pub mod Answers
 pub mod Paging
+pub mod Filling
 pub mod Settled
 pub mod Returns
 pub mod ByBytes

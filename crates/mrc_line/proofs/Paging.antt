@@ -4,7 +4,7 @@ use mathlib.Core.Path.{_≡_, refl, sym, ap, _∙_, subst}
 use mathlib.Core.List.{List, [], _∷_, _++_, append-assoc, append-nil}
 use Prim.Native.Nat.{ℕ, zero, suc, _+_, _-_, _<_, _≤_}
 use native.Mathlib.Omega.{arith}
-use borrow.Rule.Slice.PartMut.{midOf, postOf, putMid, put-same, same-len-mid}
+use borrow.Rule.Slice.PartMut.{midOf, putMid, put-same, same-len-mid}
 use lib.ListN.{length, take, drop, length-append, length-drop, take-append-drop}
 use lib.Seq.{take-at, drop-at, drop-append-le, drop-drop, length-take-le}
 use Rattle.mrc_instruction.specs.declared.reading.Reading.{Reading}
@@ -14,50 +14,14 @@ use Rattle.mrc_line.specs.declared.line.LineAnswer.the-variants.{Line, R
 use Rattle.mrc_line.specs.Text.{Put}
 use Rattle.mrc_line.specs.Target.{offsets}
 use Rattle.mrc_line.specs.Line.{lineText, lineTaken, answerOf, after, Listed, longest}
-use Rattle.mrc_line.specs.Page.{linesFrom, textOf, takenOf, fitting, pageOf, Paged}
+use Rattle.mrc_line.specs.Page.{linesFrom, textOf, takenOf, fitting, pageOf, Paged, Paging}
 use Rattle.mrc_line.proofs.Put.{then, none}
+use Rattle.mrc_line.proofs.Parts.{mid-length, put-behind}
 use Rattle.mrc_line.proofs.Takes.{line-takes}
 use Rattle.mrc_line.proofs.Lines.{lines-more, lines-past, enough}
 use Rattle.mrc_line.proofs.Pages.{fits, stops, page-is, page-none, moves}
 use Rattle.mrc_line.proofs.Lengths.{line-longest}
 use Rattle.mrc_line.proofs.Answers.{Told, told, lacks}
-
--- ---- a part of a buffer, lent from o on, with t put at its start
-
-mid-length : (d : List ℕ) (o : ℕ) → o ≤ length d → length (midOf o (length d - o) d) ≡ length d - o
-mid-length d o h = length-take-le (length d - o) (drop o d) (rw (length-drop o d) (omega arith))
-
-put-behind :
-    (d : List ℕ) (o : ℕ) (t e : List ℕ) → o ≤ length d → length t ≤ length d - o → e ≡ t ++ drop (length t) (midOf o (length d - o) d) →
-    Put (length t) d o t (putMid o (length d - o) d e) (o + length t)
-put-behind d o t e h g q =
-    let k = length d - o in
-    let m = midOf o k d in
-    let y = drop (length t) m in
-    let front : length (take o d ++ t) ≡ o + length t = length-append (take o d) t ∙ ap (λ (n : ℕ). n + length t) (length-take-le o d h) in
-    let split : putMid o k d e ≡ (take o d ++ t) ++ (y ++ postOf o k d) = ap (λ (l : List ℕ). take o d ++ (l ++ postOf o k d)) q ∙ simp append-assoc in
-    let after : y ++ postOf o k d ≡ drop (o + length t) d =
-    sym (drop-append-le (length t) m (postOf o k d) (rw (mid-length d o h) g)) ∙ ap (drop (length t)) (take-append-drop k (drop o d))
-    ∙ drop-drop (length t) o d in
-    record {
-      end = refl;
-      most = omega arith;
-      text = ap (take (o + length t)) split ∙ take-at (take o d ++ t) (y ++ postOf o k d) (o + length t) front;
-      rest = ap (drop (o + length t)) split ∙ drop-at (take o d ++ t) (y ++ postOf o k d) (o + length t) front ∙ after;
-    }
-
--- ---- the loop
-
--- the lines so far, from `at` to `next`, stand in the buffer's first o bytes; f lines are enough for the rest
-pub record Paging (x : Reading) (s : List ℕ) (at : ℕ) (out₀ out : List ℕ) (o next : ℕ) : Type 0 where
-  pub f : ℕ
-  pub lines : List ℕ
-  pub left : length s ≤ next + f
-  pub inside : o ≤ length out
-  pub long : length out ≡ length out₀
-  pub put : Put o out₀ 0 (textOf x s lines) out o
-  pub page : fitting x s (length out₀) (linesFrom x (length s) s at) ≡ lines ++ fitting x s (length out₀ - o) (linesFrom x f s next)
-  pub goes : next ≡ at + takenOf x s lines
 
 module _ (x : Reading) where
   -- ---- lines that are put one after the other
@@ -108,7 +72,7 @@ module _ (x : Reading) where
           left-in ∙ ap (λ a. after a (lineText x s next) (midOf o (length out - o) out)) e
           ∙ ap (λ (n : ℕ). lineText x s next ++ drop n (midOf o (length out - o) out)) (tells .len-is)
 
-      grown : Put (length (lineText x s next)) out o (lineText x s next) (putMid o (length out - o) out last) (o + len)
+      pub grown : Put (length (lineText x s next)) out o (lineText x s next) (putMid o (length out - o) out last) (o + len)
       grown =
           subst (λ (n : ℕ). Put (length (lineText x s next)) out o (lineText x s next) (putMid o (length out - o) out last) (o + n)) (sym (tells .len-is))
           (put-behind out o (lineText x s next) last (p .inside) (omega (arith, tells .fits, p .long)) at-line)

@@ -26,31 +26,34 @@ then {s = s} {at = at} {t = t} {d = d} {m = m} {u = u} {r = r} p q = record {
   rest = q .rest ∙ beyond d s m r (omega (arith, q .end)) (p .rest);
 }
 
--- a piece that is put over the start of another
-pub over :
-    {n : ℕ} {s : List ℕ} {at : ℕ} {t d : List ℕ} {r k : ℕ} {u e : List ℕ} {q : ℕ} →
-    at ≤ length s → q ≤ r → Put n s at t d r → Put k d at u e q → Put n s at (u ++ drop (length u) t) e r
-over {s = s} {at = at} {t = t} {d = d} {r = r} {u = u} {e = e} {q = q} l h p o =
-    let a = take at s in
+-- a piece that is put over what stands behind the first part of another
+pub inside :
+    {n : ℕ} {s : List ℕ} {at : ℕ} {d : List ℕ} {r k m : ℕ} {u e : List ℕ} {q : ℕ} (f t : List ℕ) →
+    at ≤ length s → m ≡ at + length f → q ≤ r → Put n s at (f ++ t) d r → Put k d m u e q → Put n s at (f ++ (u ++ drop (length u) t)) e r
+inside {s = s} {at = at} {d = d} {r = r} {m = m} {u = u} {e = e} {q = q} f t l h b p o =
+    let a = take at s ++ f in
     let z = drop r d in
-    let la : length a ≡ at = length-take-le at s l in
+    let v = drop (length u) t in
+    let la : length a ≡ m = omega (arith, length-append (take at s) f, length-take-le at s l) in
+    let lt : length (f ++ t) ≡ length f + length t = length-append f t in
     let lu : length u ≤ length t = omega (arith, p .end, o .end) in
-    let was : d ≡ a ++ (t ++ z) = sym (take-append-drop r d) ∙ ap (λ (x : List ℕ). x ++ z) (p .text) ∙ append-assoc a t z in
-    let front : take at d ≡ a = ap (take at) was ∙ take-at a (t ++ z) at la in
-    let back : drop q d ≡ drop (length u) t ++ z =
-    ap (λ (m : ℕ). drop m d) (o .end) ∙ sym (drop-drop (length u) at d) ∙ ap (λ (x : List ℕ). drop (length u) (drop at x)) was
-    ∙ ap (drop (length u)) (drop-at a (t ++ z) at la) ∙ drop-append-le (length u) t z lu in
-    let left : length (drop (length u) t) ≡ r - q = length-drop (length u) t ∙ omega (arith, p .end, o .end) in
+    let was : d ≡ a ++ (t ++ z) =
+    sym (take-append-drop r d) ∙ ap (λ (x : List ℕ). x ++ z) (p .text ∙ sym (append-assoc (take at s) f t)) ∙ append-assoc a t z in
+    let front : take m d ≡ a = ap (take m) was ∙ take-at a (t ++ z) m la in
+    let back : drop q d ≡ v ++ z =
+    ap (λ (x : ℕ). drop x d) (o .end) ∙ sym (drop-drop (length u) m d) ∙ ap (λ (x : List ℕ). drop (length u) (drop m x)) was
+    ∙ ap (drop (length u)) (drop-at a (t ++ z) m la) ∙ drop-append-le (length u) t z lu in
+    let left : length v ≡ r - q = length-drop (length u) t ∙ omega (arith, p .end, o .end) in
     let upto : r ≡ q + (r - q) = omega arith in
     record {
-      end = omega (arith, p .end, length-append u (drop (length u) t), length-drop (length u) t);
+      end = omega (arith, p .end, length-append f (u ++ v), length-append u v, length-drop (length u) t);
       most = p .most;
       text =
-          ap (λ (m : ℕ). take m e) upto ∙ take-add q (r - q) e
+          ap (λ (x : ℕ). take x e) upto ∙ take-add q (r - q) e
           ∙ ap (λ (x : List ℕ). x ++ take (r - q) (drop q e)) (o .text ∙ ap (λ (x : List ℕ). x ++ u) front)
           ∙ ap (λ (x : List ℕ). (a ++ u) ++ take (r - q) x) (o .rest ∙ back)
-          ∙ ap (λ (x : List ℕ). (a ++ u) ++ x) (take-at (drop (length u) t) z (r - q) left) ∙ append-assoc a u (drop (length u) t);
-      rest = beyond e d q r h (o .rest) ∙ p .rest;
+          ∙ ap (λ (x : List ℕ). (a ++ u) ++ x) (take-at v z (r - q) left) ∙ append-assoc a u v ∙ append-assoc (take at s) f (u ++ v);
+      rest = beyond e d q r b (o .rest) ∙ p .rest;
     }
 
 -- a byte by a store
@@ -89,7 +92,7 @@ gives {n} {m} {s} {at} {d = d} {r = r} h e p = subst (λ (x : List ℕ). Put m s
 pub same : {n : ℕ} {s : List ℕ} {at : ℕ} {t u d : List ℕ} {r : ℕ} → t ≡ u → Put n s at t d r → Put n s at u d r
 same {n} {s} {at} {d = d} {r = r} e p = subst (λ (x : List ℕ). Put n s at x d r) e p
 
-pub pairs-append : (xs ys : List ℕ) → pairs (xs ++ ys) ≡ pairs xs ++ pairs ys
+pairs-append : (xs ys : List ℕ) → pairs (xs ++ ys) ≡ pairs xs ++ pairs ys
 pairs-append [] ys = refl
 pairs-append (x ∷ xs) ys = ap (λ (l : List ℕ). hex2 x ++ 32 ∷ l) (pairs-append xs ys)
 
@@ -102,9 +105,17 @@ blanks zero n = let z : n ≡ n - 0 = omega arith in ap (λ (m : ℕ). replicate
 blanks (suc k) zero = let z : 0 ≡ 0 - suc k = omega arith in ap (λ (m : ℕ). replicate {A = ℕ} m 32) z
 blanks (suc k) (suc n) = let z : n - k ≡ suc n - suc k = omega arith in blanks k n ∙ ap (λ (m : ℕ). replicate m 32) z
 
--- a text over blanks is the text, padded
-pub over-blanks : (n : ℕ) (t : List ℕ) → t ++ drop {A = ℕ} (length t) (replicate n 32) ≡ padded n t
-over-blanks n t = ap (λ (x : List ℕ). t ++ x) (blanks (length t) n)
+-- two digits over the blanks behind pairs are one pair more
+pub pair-more :
+    (n : ℕ) (l : List ℕ) (b : ℕ) → length (pairs l) + 3 ≤ n →
+    pairs l ++ (hex2 b ++ drop {A = ℕ} 2 (replicate (n - length (pairs l)) 32)) ≡ padded n (pairs (l ++ (b ∷ [])))
+pair-more n l b h =
+    let p = pairs l in
+    let w : length (p ++ pairs (b ∷ [])) ≡ length p + 3 = length-append p (pairs (b ∷ [])) in
+    let z : (n - length p) - 2 ≡ suc (n - length (p ++ pairs (b ∷ []))) = omega arith in
+    ap (λ (x : List ℕ). p ++ (hex2 b ++ x)) (blanks 2 (n - length p) ∙ ap (λ (m : ℕ). replicate {A = ℕ} m 32) z)
+    ∙ sym (append-assoc p (pairs (b ∷ [])) (replicate (n - length (p ++ pairs (b ∷ []))) 32))
+    ∙ ap (padded n) (sym (pairs-append l (b ∷ [])))
 
 -- the first n of a list, by the shorter of n and its length
 pub first : (n k : ℕ) (l : List ℕ) → k ≡ min n (length l) → take k l ≡ take n l

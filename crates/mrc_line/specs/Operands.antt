@@ -1,6 +1,6 @@
 -- Rule 12.4: the text of operands.
 use mathlib.Core.List.{List, [], _∷_, _++_}
-use Prim.Native.Nat.{ℕ}
+use Prim.Native.Nat.{ℕ, _/_, _%_}
 use lib.IntN.{ℤ, pos, negsuc, natAbs}
 use Rattle.mrc_instruction.specs.declared.register.RegisterEncoding.{RegisterEncoding}
 use Rattle.mrc_instruction.specs.declared.register.RegisterEncoding.the-variants.{AlAx, ClCx, DlDx, BlBx, AhSp, ChBp, DhSi, BhDi}
@@ -15,6 +15,8 @@ use Rattle.mrc_instruction.specs.declared.operand.Immediate.{Immediate}
 use Rattle.mrc_instruction.specs.declared.operand.Operand.{Operand}
 use Rattle.mrc_instruction.specs.declared.instruction.OperandSet.{OperandSet}
 use Rattle.mrc_instruction.specs.declared.operation.Operation.{Operation}
+use Rattle.mrc_instruction.specs.Register.{registerOf}
+use Rattle.mrc_instruction.specs.Operand.{sizeBy}
 use Rattle.mrc_line.specs.declared.printed.Printed.{Printed}
 use Rattle.mrc_line.specs.Text.{bytes, hex2, hex4}
 use Rattle.mrc_line.specs.Printed.{alone, beside}
@@ -104,3 +106,7 @@ operandsText operation start taken OperandSet.None = []
 operandsText operation start taken (OperandSet.Destination destination) = bytes " " ++ operandText (alone operation start taken) destination
 operandsText operation start taken (OperandSet.DestinationAndSource destination source) =
     bytes " " ++ (operandText beside destination ++ (bytes ", " ++ operandText beside source))
+
+-- Internal: a register's name by number: the low three bits are the register's field, and the bit above them is the size's.
+abbrev pub registerNameAt : ℕ → List ℕ
+registerNameAt n = registerText (registerOf (n % 8)) (sizeBy (n / 8))

@@ -6,9 +6,11 @@ use Prim.Native.Nat.{ℕ, zero, suc, _+_, _-_, _<_, _≤_}
 use lib.Dec.{ltb, leb}
 use lib.ListN.{length, take, drop}
 use Rattle.mrc_instruction.specs.declared.reading.Reading.{Reading}
+use Rattle.mrc_line.specs.declared.line.LineAnswer.{LineAnswer}
 use Rattle.mrc_line.specs.declared.page.Page.{Page}
+use Rattle.mrc_line.specs.Text.{Put}
 use Rattle.mrc_line.specs.Target.{offsets}
-use Rattle.mrc_line.specs.Line.{lineText, lineTaken, longest}
+use Rattle.mrc_line.specs.Line.{lineText, lineTaken, longest, Listed}
 
 module _ (x : Reading) where
   -- the lines from a position on, each by its position: one stands behind the bytes that the one before took. There are f of them at most; each takes a
@@ -57,3 +59,19 @@ pub record Paged (x : Reading) (s : List ℕ) (at : ℕ) (out : List ℕ) (r : P
   -- it stays within its room, and where that has room for any line, it moves on
   pub within : r .len ≤ length out
   pub moves : length s ≤ offsets → at < length s → longest ≤ length out → at < r .next
+
+-- Internal: of a page that holds o bytes, the lines so far, from `at` to `next`; what still fits comes behind them, and f lines are enough for that
+pub record Paging (x : Reading) (s : List ℕ) (at : ℕ) (out₀ out : List ℕ) (o next : ℕ) : Type 0 where
+  pub f : ℕ
+  pub lines : List ℕ
+  pub left : length s ≤ next + f
+  pub inside : o ≤ length out
+  pub long : length out ≡ length out₀
+  pub put : Put o out₀ 0 (textOf x s lines) out o
+  pub page : fitting x s (length out₀) (linesFrom x (length s) s at) ≡ lines ++ fitting x s (length out₀ - o) (linesFrom x f s next)
+  pub goes : next ≡ at + takenOf x s lines
+
+-- Internal: the lines of a page for which there was room whatever they are; a buffer for one line has one
+pub record Roomy (x : Reading) (s : List ℕ) (at : ℕ) (out : List ℕ) (r : Page) (done : List ℕ) : Type 0 where
+  pub paging : Paging x s at out done (r .len) (r .next)
+  pub one : at < length s → length out ≡ longest → Listed x s at out (LineAnswer.Line (r .len) (r .next - at)) done

@@ -6,6 +6,7 @@ mod operands;
 pub mod page;
 mod printed;
 mod registers;
+mod roomy;
 mod signs;
 mod step;
 pub mod target;

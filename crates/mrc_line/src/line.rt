@@ -3,7 +3,6 @@ use crate::write::write_line;
 use mrc_instruction::errors::Refusal;
 use mrc_instruction::reading::Reading;
 use mrc_instruction::widths::WORDS;
-use mrc_names::names::table;
 ghost use Rattle.mrc_line.specs.Line.{Listed};
 
 // The line's length and the bytes that it accounts for, or why there is no line.
@@ -29,6 +28,5 @@ pub fn line(image: &[u8], at: usize, reading: Reading, out: &mut [u8]) -> LineAn
     if image.len() == at {
         return LineAnswer::Refused(Refusal::EndOfInput);
     }
-    let names = table();
-    write_line(out, &names, image, at, reading)
+    write_line(out, image, at, reading)
 }

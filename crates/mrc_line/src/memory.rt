@@ -10,20 +10,30 @@ use mrc_instruction::operand::AddressingMode;
 use mrc_instruction::operand::Displacement;
 use mrc_instruction::operand::OperandSize;
 use mrc_instruction::register::Segment;
+ghost use mathlib.Core.Path.{_≡_};
 ghost use mathlib.Core.List.{_++_};
 ghost use Prim.Native.Nat.{_+_, _≤_};
 ghost use lib.ListN.{length};
 ghost use Rattle.mrc_line.specs.Text.{Put, hex4, bytes};
 ghost use Rattle.mrc_line.specs.Operands.{sizeText, segmentText, modeText, displacementText, memoryText};
 
+fn size_name(size: OperandSize) -> [u8; 4]
+    ensures { λ r. ⌜ r ++ bytes " " ≡ sizeText size ⌝ }
+{
+    match size {
+        OperandSize::Byte => *b"BYTE",
+        OperandSize::Word => *b"WORD",
+    }
+}
+
+// A size and its space.
 fn put_size(buf: &mut [u8], at: usize, size: OperandSize) -> usize
     requires { ⌜ at + 5 ≤ length (now buf) ⌝ }
     ensures { λ r. ⌜ Put 5 (now (buf .entry)) at (sizeText size) (now (buf .exit)) r ⌝ }
 {
-    match size {
-        OperandSize::Byte => put_bytes(buf, at, b"BYTE "),
-        OperandSize::Word => put_bytes(buf, at, b"WORD "),
-    }
+    let name = size_name(size);
+    let o = put_bytes(buf, at, &name);
+    put_byte(buf, o, b' ')
 }
 
 fn put_mode(buf: &mut [u8], at: usize, mode: AddressingMode) -> usize

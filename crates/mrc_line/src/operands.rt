@@ -80,9 +80,7 @@ fn put_operand(buf: &mut [u8], at: usize, operand: Operand) -> usize
         Operand::Register(register) => put_register(buf, at, register),
         Operand::Segment(segment) => put_segment(buf, at, segment),
         Operand::Immediate(immediate) => put_immediate(buf, at, immediate),
-        Operand::Displacement(displacement) => {
-            put_printed(buf, at, Printed::Signed(displacement))
-        }
+        Operand::Displacement(displacement) => put_signed(buf, at, displacement),
         Operand::SegmentAndOffset(address) => put_address(buf, at, address),
     }
 }
@@ -99,7 +97,7 @@ fn put_beside(buf: &mut [u8], at: usize, operand: Operand) -> usize
 }
 
 // A destination that stands alone.
-fn put_alone(
+fn put_sole(
     buf: &mut [u8],
     at: usize,
     operation: Operation,
@@ -115,6 +113,24 @@ fn put_alone(
             put_printed(buf, at, alone(operation, start, taken, displacement))
         }
         _ => put_operand(buf, at, destination),
+    }
+}
+
+// The same: a register without a further call.
+fn put_alone(
+    buf: &mut [u8],
+    at: usize,
+    operation: Operation,
+    start: u16,
+    taken: u16,
+    destination: Operand,
+) -> usize
+    requires { ⌜ at + 20 ≤ length (now buf) ⌝ }
+    ensures { λ r. ⌜ Put 20 (now (buf .entry)) at (operandText (alone operation start taken) destination) (now (buf .exit)) r ⌝ }
+{
+    match destination {
+        Operand::Register(register) => put_register(buf, at, register),
+        _ => put_sole(buf, at, operation, start, taken, destination),
     }
 }
 

@@ -1,9 +1,9 @@
 // A page: as many whole lines as fit into a buffer.
 use crate::line::LineAnswer;
 use crate::line::OFFSETS;
-use crate::write::write_line;
+use crate::roomy::roomy_lines;
+use crate::write::write_short;
 use mrc_instruction::reading::Reading;
-use mrc_names::names::table;
 ghost use Rattle.mrc_line.specs.Page.{Paged};
 
 // How many bytes were written, and the position at which the next line starts.
@@ -19,11 +19,11 @@ pub fn write_page(image: &[u8], at: usize, reading: Reading, out: &mut [u8]) -> 
     if OFFSETS < image.len() {
         return Page { len: 0, next: at };
     }
-    let names = table();
-    let mut len = 0;
-    let mut next = at;
+    let roomy = roomy_lines(out, image, at, reading);
+    let mut len = roomy.len;
+    let mut next = roomy.next;
     while next < image.len() {
-        match write_line(&mut out[len..], &names, image, next, reading) {
+        match write_short(&mut out[len..], image, next, reading) {
             LineAnswer::Line { len: more, taken } => {
                 len += more;
                 next += taken;

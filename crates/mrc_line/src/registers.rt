@@ -1,42 +1,35 @@
 // The names of registers and segments.
 use crate::text::put_bytes;
-use mrc_instruction::operand::OperandSize;
-use mrc_instruction::register::RegisterEncoding;
 use mrc_instruction::register::Segment;
 use mrc_instruction::register::SizedRegisterEncoding;
 ghost use mathlib.Core.Path.{_≡_};
-ghost use Prim.Native.Nat.{_+_, _≤_};
+ghost use Prim.Native.Nat.{_+_, _<_, _≤_};
 ghost use lib.ListN.{length};
 ghost use Rattle.mrc_line.specs.Text.{Put};
-ghost use Rattle.mrc_line.specs.Operands.{registerText, segmentText};
+ghost use Rattle.mrc_line.specs.Operands.{registerText, registerNameAt, segmentText};
 
-fn byte_name(register: RegisterEncoding) -> [u8; 2]
-    ensures { λ r. ⌜ r ≡ registerText register OperandSize.Byte ⌝ }
+// The names by number: those of the bytes, and eight on those of the words.
+fn register_name(number: u8) -> [u8; 2]
+    requires { ⌜ number < 16 ⌝ }
+    ensures { λ r. ⌜ r ≡ registerNameAt number ⌝ }
 {
-    match register {
-        RegisterEncoding::AlAx => *b"AL",
-        RegisterEncoding::ClCx => *b"CL",
-        RegisterEncoding::DlDx => *b"DL",
-        RegisterEncoding::BlBx => *b"BL",
-        RegisterEncoding::AhSp => *b"AH",
-        RegisterEncoding::ChBp => *b"CH",
-        RegisterEncoding::DhSi => *b"DH",
-        RegisterEncoding::BhDi => *b"BH",
-    }
-}
-
-fn word_name(register: RegisterEncoding) -> [u8; 2]
-    ensures { λ r. ⌜ r ≡ registerText register OperandSize.Word ⌝ }
-{
-    match register {
-        RegisterEncoding::AlAx => *b"AX",
-        RegisterEncoding::ClCx => *b"CX",
-        RegisterEncoding::DlDx => *b"DX",
-        RegisterEncoding::BlBx => *b"BX",
-        RegisterEncoding::AhSp => *b"SP",
-        RegisterEncoding::ChBp => *b"BP",
-        RegisterEncoding::DhSi => *b"SI",
-        RegisterEncoding::BhDi => *b"DI",
+    match number {
+        0 => *b"AL",
+        1 => *b"CL",
+        2 => *b"DL",
+        3 => *b"BL",
+        4 => *b"AH",
+        5 => *b"CH",
+        6 => *b"DH",
+        7 => *b"BH",
+        8 => *b"AX",
+        9 => *b"CX",
+        10 => *b"DX",
+        11 => *b"BX",
+        12 => *b"SP",
+        13 => *b"BP",
+        14 => *b"SI",
+        _ => *b"DI",
     }
 }
 
@@ -58,16 +51,8 @@ pub fn put_register(buf: &mut [u8], at: usize, register: SizedRegisterEncoding) 
 {
     let encoding = register.0;
     let size = register.1;
-    match size {
-        OperandSize::Byte => {
-            let name = byte_name(encoding);
-            put_bytes(buf, at, &name)
-        }
-        OperandSize::Word => {
-            let name = word_name(encoding);
-            put_bytes(buf, at, &name)
-        }
-    }
+    let name = register_name(8 * size.into_encoding() + encoding.into_encoding());
+    put_bytes(buf, at, &name)
 }
 
 // A segment's name.

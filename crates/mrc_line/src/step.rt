@@ -17,7 +17,6 @@ use mrc_rules::Answer;
 ghost use mathlib.Core.Path.{_≡_};
 ghost use Prim.Native.Nat.{_+_, _<_, _≤_, min};
 ghost use lib.ListN.{length};
-ghost use Rattle.mrc_names.specs.Names.{nameTable};
 ghost use Rattle.mrc_line.specs.Target.{offsets};
 ghost use Rattle.mrc_line.specs.Text.{Put};
 ghost use Rattle.mrc_line.specs.Line.{headText, repeatText, keptText, reachText, instructionText, dbText, bodyText, stepText, stepTaken, longest};
@@ -84,12 +83,11 @@ fn put_reach(buf: &mut [u8], at: usize, reach: Reach) -> usize
 fn put_instruction(
     buf: &mut [u8],
     at: usize,
-    names: &[[u8; 6]; 97],
     start: u16,
     taken: u16,
     instruction: Instruction,
 ) -> usize
-    requires { ⌜ (at + 63 ≤ length (now buf)) × (now names ≡ nameTable) ⌝ }
+    requires { ⌜ at + 63 ≤ length (now buf) ⌝ }
     ensures { λ r. ⌜ Put 63 (now (buf .entry)) at (instructionText start taken instruction) (now (buf .exit)) r ⌝ }
 {
     let reach = instruction.reach;
@@ -99,7 +97,7 @@ fn put_instruction(
     let operands = instruction.operands;
     let a = put_repeat(buf, at, repeat);
     let b = put_kept(buf, a, kept);
-    let c = put_name(buf, b, names, operation);
+    let c = put_name(buf, b, operation);
     let d = put_reach(buf, c, reach);
     put_operands(buf, d, operation, start, taken, operands)
 }
@@ -132,15 +130,8 @@ fn step_taken(answer: Answer) -> usize
 }
 
 // What stands behind the bytes: the instruction, or its first byte.
-fn put_body(
-    buf: &mut [u8],
-    at: usize,
-    names: &[[u8; 6]; 97],
-    start: u16,
-    byte: u8,
-    answer: Answer,
-) -> usize
-    requires { ⌜ (at + 63 ≤ length (now buf)) × (now names ≡ nameTable) × (stepTaken answer < offsets) ⌝ }
+fn put_body(buf: &mut [u8], at: usize, start: u16, byte: u8, answer: Answer) -> usize
+    requires { ⌜ (at + 63 ≤ length (now buf)) × (stepTaken answer < offsets) ⌝ }
     ensures { λ r. ⌜ Put 63 (now (buf .entry)) at (bodyText start byte answer) (now (buf .exit)) r ⌝ }
 {
     match answer {
@@ -148,7 +139,7 @@ fn put_body(
             instruction,
             taken,
             prefixes: _,
-        } => put_instruction(buf, at, names, start, taken as u16, instruction),
+        } => put_instruction(buf, at, start, taken as u16, instruction),
         Answer::Refused {
             refusal: _,
             taken: _,
@@ -164,22 +155,15 @@ pub struct Written {
 }
 
 // The line of what was decoded at a position of an image.
-pub fn put_step(
-    buf: &mut [u8],
-    at: usize,
-    names: &[[u8; 6]; 97],
-    image: &[u8],
-    start: usize,
-    answer: Answer,
-) -> Written
-    requires { ⌜ (at + longest ≤ length (now buf)) × (now names ≡ nameTable) × (start < offsets) × (1 ≤ stepTaken answer) × (stepTaken answer < offsets) × (start + stepTaken answer ≤ length (now image)) ⌝ }
+pub fn put_step(buf: &mut [u8], at: usize, image: &[u8], start: usize, answer: Answer) -> Written
+    requires { ⌜ (at + longest ≤ length (now buf)) × (start < offsets) × (1 ≤ stepTaken answer) × (stepTaken answer < offsets) × (start + stepTaken answer ≤ length (now image)) ⌝ }
     ensures { λ r. ⌜ Put longest (now (buf .entry)) at (stepText (now (image .entry)) start answer) (now (buf .exit)) (r .end) × (r .taken ≡ stepTaken answer) ⌝ }
 {
     let taken = step_taken(answer);
     let next = start + taken;
     let offset = start as u16;
     let a = put_head(buf, at, offset, &image[start..next]);
-    let b = put_body(buf, a, names, offset, image[start], answer);
+    let b = put_body(buf, a, offset, image[start], answer);
     let end = put_byte(buf, b, b'\n');
     Written { end, taken }
 }

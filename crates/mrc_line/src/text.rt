@@ -1,6 +1,6 @@
 // The pieces of a line, written into a buffer. Each writer takes the position to write at and answers the position after what it wrote.
 ghost use mathlib.Core.Path.{_≡_};
-ghost use Prim.Native.Nat.{_+_, _*_, _<_, _≤_};
+ghost use Prim.Native.Nat.{_+_, _<_, _≤_};
 ghost use lib.ListN.{length, replicate};
 ghost use mathlib.Core.List.{[], _∷_};
 ghost use Rattle.mrc_line.specs.Text.{Put, digitOf, hex2, hex4, pairs, padded, shown, fieldWidth};
@@ -93,27 +93,18 @@ pub fn put_hex4(buf: &mut [u8], at: usize, w: u16) -> usize
     put_hex2(buf, o, (w % 256) as u8)
 }
 
-// Each byte of `src`, as two digits and a space.
-pub fn put_pairs(buf: &mut [u8], at: usize, src: &[u8]) -> usize
-    requires { ⌜ at + 3 * length (now src) ≤ length (now buf) ⌝ }
-    ensures { λ r. ⌜ Put (3 * length (now (src .entry))) (now (buf .entry)) at (pairs (now (src .entry))) (now (buf .exit)) r ⌝ }
-{
-    let mut i = 0;
-    let mut o = at;
-    while i < src.len() {
-        let p = put_hex2(buf, o, src[i]);
-        o = put_byte(buf, p, b' ');
-        i += 1;
-    }
-    o
-}
-
 // At most seven bytes, each as two digits and a space, over a field of blanks.
 pub fn put_field(buf: &mut [u8], at: usize, src: &[u8]) -> usize
     requires { ⌜ (at + fieldWidth ≤ length (now buf)) × (length (now src) ≤ shown) ⌝ }
     ensures { λ r. ⌜ Put fieldWidth (now (buf .entry)) at (padded fieldWidth (pairs (now (src .entry)))) (now (buf .exit)) r ⌝ }
 {
     let end = put_spaces(buf, at, FIELD);
-    put_pairs(buf, at, src);
+    let mut i = 0;
+    let mut o = at;
+    while i < src.len() {
+        put_hex2(buf, o, src[i]);
+        o += 3;
+        i += 1;
+    }
     end
 }

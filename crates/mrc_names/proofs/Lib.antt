@@ -1,4 +1,5 @@
-pub mod Trimmed
-pub mod Rows
+pub mod Downwards
 pub mod Distinct
+pub mod Tiles
+pub mod Written
 pub mod Main

@@ -1,10 +1,13 @@
--- The operations' names, and the name table.
-use mathlib.Core.List.{List, map}
+-- The operations' names, and what is written of one.
+use mathlib.Core.Bool.{cond}
+use mathlib.Core.List.{List, map, flatten, _++_}
 use Prim.Native.Nat.{ℕ}
+use lib.Dec.{ltb}
+use lib.ListN.{length, drop}
 use Rattle.mrc_instruction.specs.declared.operation.Operation.{Operation}
 use Rattle.mrc_instruction.specs.declared.operation.Operation.the-variants.{MOV, PUSH, POP, XCHG, IN, OUT, XLATB, LEA, LDS, LES, LAHF, SAHF, PUSHF, POPF, ADD, ADC, INC, AAA, DAA, SUB, SBB, DEC, NEG, CMP, AAS, DAS, MUL, IMUL, AAM, DIV, IDIV, AAD, CBW, CWD, NOT, SHL, SHR, SAR, ROL, ROR, RCL, RCR, AND, TEST, OR, XOR, MOVSB, MOVSW, CMPSB, CMPSW, SCASB, SCASW, LODSB, LODSW, STOSB, STOSW, CALL, JMP, RET, JE, JL, JLE, JB, JBE, JP, JO, JS, JNE, JNL, JNLE, JNB, JNBE, JNP, JNO, JNS, LOOP, LOOPZ, LOOPNZ, JCXZ, INT, INT1, INT3, INTO, IRET, CLC, CMC, STC, CLD, STD, CLI, STI, HLT, WAIT, ESC, LOCK, NOP, SALC}
 use Rattle.mrc_instruction.specs.Operation.{operations}
-use Rattle.mrc_names.specs.Text.{bytes, padded}
+use Rattle.mrc_names.specs.Text.{bytes}
 
 -- rule 11.1: each operation's name, as a line has it
 abbrev pub nameOf : Operation → List ℕ
@@ -106,9 +109,13 @@ nameOf LOCK = bytes "LOCK"
 nameOf NOP = bytes "NOP"
 nameOf SALC = bytes "SALC"
 
--- rule 11.1: a row of the name table, and the table
-abbrev pub rowOf : Operation → List ℕ
-rowOf o = padded 6 (nameOf o)
+-- rule 11.1: all names end to end, in the operations' order
+unfoldable pub letters : List ℕ
+letters = flatten (map nameOf operations)
 
-unfoldable pub nameTable : List (List ℕ)
-nameTable = map rowOf operations
+-- a call that writes a name: how many letters it wrote, and what it leaves. Where less is lent than the longest name has, nothing is written
+abbrev pub lettersWritten : Operation → List ℕ → ℕ
+lettersWritten o out = cond (ltb (length out) 6) 0 (length (nameOf o))
+
+abbrev pub written : Operation → List ℕ → List ℕ
+written o out = cond (ltb (length out) 6) out (nameOf o ++ drop (length (nameOf o)) out)

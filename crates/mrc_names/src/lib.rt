@@ -1,2 +1,4 @@
-// The operations' names, padded and measured.
+// The operations' names: their letters end to end, and where each name starts.
+mod letters;
 pub mod names;
+mod places;

@@ -67,6 +67,7 @@ pub fn lines(image: &[u8]) -> Result<Lines<'_>> {
 
 impl Reading {
     /// Writes the listing line at a position in this reading, as [`line`] does in the first.
+    #[inline]
     pub fn line(self, image: &[u8], position: usize, out: &mut [u8]) -> Result<Written> {
         let answer = boundary::line(image, position, self.number(), out);
         match (answer >> 32) as u8 {

@@ -21,9 +21,6 @@ returns-3 c =
     let a = c .before .before .before .before .before .args in
     refused (a .reading) (a .image .now) (a .at) (a .out .now) Refusal.EndOfInput (at-end (a .reading) (a .image .now) (a .at) (a .out .now) (c .before .before .if1 .left) (c .if3 .taken))
 
-table-requires : tie.Need-table-requires
-table-requires c κs = search needs
-
 write-line-requires : tie.Need-write-line-requires
 write-line-requires c κs = search needs
 
@@ -36,4 +33,4 @@ returns-4 c = search needs
 pub line-spec : {M : Type 1} → statement M
 line-spec =
     tie.close
-    (tie.spec returns returns-2 returns-3 table-requires write-line-requires same-length returns-4)
+    (tie.spec returns returns-2 returns-3 write-line-requires same-length returns-4)

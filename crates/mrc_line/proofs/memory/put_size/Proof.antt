@@ -1,15 +1,13 @@
--- Each arm knows its size.
+-- The name and its space, one after the other.
 -- Assumes nothing.
-use mathlib.Core.Path.{ap, sym}
 use native.Mathlib.Omega.{arith}
-use Rattle.mrc_line.specs.Operands.{sizeText}
-use Rattle.mrc_line.proofs.Put.{gives}
+use Rattle.mrc_line.proofs.Put.{then, gives}
 use borrow.Author.Needs.{needs}
 use Rattle.mrc_line.proofs.memory.put_size.Statement.{statement}
 use Rattle.mrc_line.proofs.memory.put_size.Tie as tie
 
-enum-told : tie.Need-enum-told
-enum-told c = search needs
+size-name-requires : tie.Need-size-name-requires
+size-name-requires c κs = search needs
 
 slice-aggregate-put-bytes : tie.Need-slice-aggregate-put-bytes
 slice-aggregate-put-bytes c = search needs
@@ -17,38 +15,22 @@ slice-aggregate-put-bytes c = search needs
 put-bytes-requires : tie.Need-put-bytes-requires
 put-bytes-requires c κs = search needs
 
-enum-told-2 : tie.Need-enum-told-2
-enum-told-2 c = search needs
-
-slice-aggregate-put-bytes-2 : tie.Need-slice-aggregate-put-bytes-2
-slice-aggregate-put-bytes-2 c = search needs
-
-put-bytes-requires-2 : tie.Need-put-bytes-requires-2
-put-bytes-requires-2 c κs = search needs
+put-byte-requires : tie.Need-put-byte-requires
+put-byte-requires c κs = search needs
 
 same-length : tie.Need-same-length
 same-length c = search needs
 
 returns : tie.Need-returns
-returns c = gives (omega arith) (sym (ap sizeText (c .before .before .before .before .before .enum-told .given .1))) (c .before .before .put-bytes .ensures)
-
-same-length-2 : tie.Need-same-length-2
-same-length-2 c = search needs
-
-returns-2 : tie.Need-returns-2
-returns-2 c = gives (omega arith) (sym (ap sizeText (c .before .before .before .before .before .enum-told2 .given .1))) (c .before .before .put-bytes2 .ensures)
+returns c = gives (omega (arith, c .before .before .before .before .before .before .before .before .before .size-name .ok .1 .0 .1)) (c .before .before .before .before .before .before .before .before .before .size-name .ensures) (then (c .before .before .before .before .before .before .put-bytes .ensures) (c .before .before .put-byte .ensures))
 
 pub put-size-spec : {M : Type 1} → statement M
 put-size-spec =
     tie.close
     (tie.spec
-    enum-told
+    size-name-requires
     slice-aggregate-put-bytes
     put-bytes-requires
-    enum-told-2
-    slice-aggregate-put-bytes-2
-    put-bytes-requires-2
+    put-byte-requires
     same-length
-    returns
-    same-length-2
-    returns-2)
+    returns)

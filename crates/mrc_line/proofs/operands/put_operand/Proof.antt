@@ -42,8 +42,8 @@ put-immediate-requires c κs = search needs
 enum-known-operand-6 : tie.Need-enum-known-operand-6
 enum-known-operand-6 c = search needs
 
-put-printed-requires : tie.Need-put-printed-requires
-put-printed-requires c κs = search needs
+put-signed-requires : tie.Need-put-signed-requires
+put-signed-requires c κs = search needs
 
 enum-known-operand-7 : tie.Need-enum-known-operand-7
 enum-known-operand-7 c = search needs
@@ -85,7 +85,7 @@ same-length-6 : tie.Need-same-length-6
 same-length-6 c = search needs
 
 returns-6 : tie.Need-returns-6
-returns-6 c = gives (omega arith) (sym (ap (operandText beside) (c .before .before .before .before .before .operand6 .given .1))) (c .before .before .put-printed .ensures)
+returns-6 c = gives (omega arith) (sym (ap (operandText beside) (c .before .before .before .before .before .operand6 .given .1))) (c .before .before .put-signed .ensures)
 
 same-length-7 : tie.Need-same-length-7
 same-length-7 c = search needs
@@ -108,7 +108,7 @@ put-operand-spec =
     enum-known-operand-5
     put-immediate-requires
     enum-known-operand-6
-    put-printed-requires
+    put-signed-requires
     enum-known-operand-7
     put-address-requires
     same-length

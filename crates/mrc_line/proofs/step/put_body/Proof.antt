@@ -12,7 +12,7 @@ enum-known-answer : tie.Need-enum-known-answer
 enum-known-answer c = search needs
 
 cast-put-instruction : tie.Need-cast-put-instruction
-cast-put-instruction c = omega (arith, ap stepTaken (c .before .before .answer .given .1), c .before .before .before .before .before .pre .2)
+cast-put-instruction c = omega (arith, ap stepTaken (c .before .before .answer .given .1), c .before .before .before .before .before .pre .1)
 
 put-instruction-requires : tie.Need-put-instruction-requires
 put-instruction-requires c κs = search needs
