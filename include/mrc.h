@@ -33,7 +33,9 @@ enum {
  * - D2 and D3 count in CL, a byte;
  * - C2 has an immediate word, as CA has in both;
  * - ESC takes a whole ModRM with its displacement and has what mod and rm name, a word, as its operand;
- * - A4 to A7, AC, AD and D7 keep the first override before them, where the first reading refuses it. */
+ * - A4 to A7, AC, AD and D7 keep the first override before them, where the first reading refuses it;
+ * - a line has a displacement of 0 that was written, in the digits of its width, as in `[BX+00]` and `[BX+0000]`, where the first
+ *   reading has `[BX]`. */
 enum mrc_reading { MRC_READING_1 = 1, MRC_READING_2 = 2 };
 
 /* Why a call is refused. The byte that a refusal carries is 0 where none is named. */
@@ -59,7 +61,8 @@ enum mrc_refusal {
 
 /* An operand. What its kind has no use for is 0. A byte displacement of 128 or more stands for itself less 256, a word
  * displacement of 32,768 or more for itself less 65,536; that of MRC_OP_RET, which is an immediate in the second reading, counts
- * bytes of the stack, and a line prints its value as it is. */
+ * bytes of the stack, and a line prints its value as it is. In a decode's answer MRC_INDIRECT is also a displacement of 0 that was
+ * written: then `written` of the record is 1 or 2. */
 struct mrc_operand {
     uint8_t kind;         /* enum mrc_kind */
     uint8_t named;        /* enum mrc_segment_code of memory and of a segment register, enum mrc_register_code of a register */
@@ -69,7 +72,8 @@ struct mrc_operand {
     uint16_t far_segment; /* the segment of a far address, whose offset is the value */
 };
 
-/* A decode's answer. Of a refusal every field but the first four is 0. */
+/* A decode's answer. Of a refusal every field but the first four is 0. Direct by a ModRM has 2 displacement bytes, an instruction
+ * without a ModRM none, A0 to A3 too. */
 struct MRC_WORDS mrc_record {
     uint8_t refusal;               /* enum mrc_refusal, 0 for an instruction */
     uint8_t byte;                  /* the byte that the refusal carries */
@@ -80,7 +84,7 @@ struct MRC_WORDS mrc_record {
     uint8_t repeat;                /* 0 no repeat, 1 repeat while equal (F3), 2 repeat while not equal (F2) */
     uint8_t reach;                 /* enum mrc_reach */
     uint8_t kept;                  /* enum mrc_kept */
-    uint8_t written;               /* 0, reserved: displacement bytes written */
+    uint8_t written;               /* displacement bytes written behind the ModRM: 0, 1 or 2 */
     uint8_t operands;              /* how many operands there are: 0 to 2 */
     uint8_t reserved_2[2];         /* 0 */
     struct mrc_operand operand[3]; /* MRC_DESTINATION, MRC_SOURCE, MRC_THIRD; one that is not there is all 0 */
@@ -98,7 +102,8 @@ struct MRC_WORDS mrc_modrm {
     uint8_t byte;               /* the ModRM byte */
     uint16_t taken;             /* bytes taken from the position on */
     uint8_t register_code;      /* what reg names: enum mrc_register_code */
-    uint8_t reserved[3];        /* 0 */
+    uint8_t written;            /* displacement bytes written behind the ModRM: 0, 1 or 2 */
+    uint8_t reserved[2];        /* 0 */
     struct mrc_operand operand; /* what mod and rm name: from MRC_DIRECT to MRC_REGISTER, without segment and size */
 };
 

@@ -1,5 +1,6 @@
 # Brings what Sangkelod, ndisasm and objdump print to one spelling: a repeat, a segment that is kept, the name and the operands;
-# numbers have four digits, and memory has its segment, which is the manual's default where a program prints none.
+# numbers have four digits, and memory has its segment, which is the manual's default where a program prints none. A displacement of
+# 0 that was written is there, `+0000` of a byte too, whose width the others do not print; one that was not written is not.
 
 function word_of(value) { return sprintf("%04x", (value % 65536 + 65536) % 65536) }
 
@@ -28,7 +29,7 @@ function address(text,   segment, inner) {
     if (inner ~ /^(0x)?[0-9a-f]+$/)
         return segment "[" number_spelled(inner) "]"
     if (!match(inner, /[-+](0x)?[0-9a-f]+$/))
-        return segment "[" inner "+0000]"
+        return segment "[" inner "]"
     return segment "[" substr(inner, 1, RSTART - 1) "+" number_spelled(substr(inner, RSTART)) "]"
 }
 

@@ -4,7 +4,7 @@ use Prim.Native.Nat.{ℕ}
 use mathlib.Core.Path.{_≡_, refl}
 use mathlib.Core.List.{[], _∷_}
 use native.Mathlib.Omega.{arith}
-use Rattle.mrc_c.specs.Words.{byteAt, wordAt, restAt, Holds}
+use Rattle.mrc_c.specs.Words.{byteAt, wordAt, Holds}
 use Rattle.mrc_c.specs.Operands.{Fields, fieldsWord, FieldsFit, OperandHeld, noOperand}
 use Rattle.mrc_c.specs.Record.{Head, headWord, HeadFits, HeadHeld, Body, bodyWord, BodyFits, BodyHeld, bodyBy, Record, Written}
 use Rattle.mrc_c.specs.Modrm.{ModrmHead, modrmWord, ModrmFits, ModrmHeld, Modrm, ModrmWritten}
@@ -77,7 +77,7 @@ body-held b k = record { packed = refl; kept = rw (operation, repeat, reach, kep
     reserved = omega arith
 
 pub modrm-held : (h : ModrmHead) → ModrmFits h → ModrmHeld h (modrmWord h)
-modrm-held h k = record { packed = refl; kept = rw (refusal, byte, taken, register, reserved) refl }
+modrm-held h k = record { packed = refl; kept = rw (refusal, byte, taken, register, written, reserved) refl }
   where
     refusal : byteAt 0 (modrmWord h) ≡ h .refusal
     refusal = omega arith
@@ -91,14 +91,17 @@ modrm-held h k = record { packed = refl; kept = rw (refusal, byte, taken, regist
     register : byteAt 4 (modrmWord h) ≡ h .register
     register = omega arith
 
-    reserved : restAt 5 (modrmWord h) ≡ h .reserved
+    written : byteAt 5 (modrmWord h) ≡ h .written
+    written = omega arith
+
+    reserved : wordAt 6 (modrmWord h) ≡ h .reserved
     reserved = omega arith
 
 -- a word of 0 holds what is absent
 pub no-operand : OperandHeld noOperand 0
 no-operand = record { packed = refl; kept = refl }
 
-pub no-body : BodyHeld (bodyBy 0 0 0 0 0) 0
+pub no-body : BodyHeld (bodyBy 0 0 0 0 0 0) 0
 no-body = record { packed = refl; kept = refl }
 
 -- words that hold the parts of a record are those of the record

@@ -10,22 +10,24 @@ use Rattle.mrc_instruction.specs.Errors.{numberOf, byteOf}
 use Rattle.mrc_instruction.specs.Register.{registerCode}
 use Rattle.mrc_instruction.specs.Operand.{addressingCode}
 use Rattle.mrc_instruction.specs.Signed.{unsignedByte, unsignedWord}
-use Rattle.mrc_c.specs.Words.{from, byteAt, wordAt, restAt, Holds}
+use Rattle.mrc_c.specs.Words.{from, byteAt, wordAt, Holds}
 use Rattle.mrc_c.specs.Operands.{Fields, fieldsWord, fieldsIn, fieldsOf, noOperand}
 
--- the first word: the refusal's number, or 0; the ModRM byte, or the refusal's; the bytes taken; the register that reg names
+-- the first word: the refusal's number, or 0; the ModRM byte, or the refusal's; the bytes taken; the register that reg names; the
+-- displacement bytes written
 pub record ModrmHead : Type 0 where
   pub refusal : ℕ
   pub byte : ℕ
   pub taken : ℕ
   pub register : ℕ
+  pub written : ℕ
   pub reserved : ℕ
 
 abbrev pub modrmWord : ModrmHead → ℕ
-modrmWord h = from 0 (h .refusal) + from 1 (h .byte) + from 2 (h .taken) + from 4 (h .register) + from 5 (h .reserved)
+modrmWord h = from 0 (h .refusal) + from 1 (h .byte) + from 2 (h .taken) + from 4 (h .register) + from 5 (h .written) + from 6 (h .reserved)
 
 abbrev pub modrmIn : ℕ → ModrmHead
-modrmIn w = record { refusal = byteAt 0 w; byte = byteAt 1 w; taken = wordAt 2 w; register = byteAt 4 w; reserved = restAt 5 w }
+modrmIn w = record { refusal = byteAt 0 w; byte = byteAt 1 w; taken = wordAt 2 w; register = byteAt 4 w; written = byteAt 5 w; reserved = wordAt 6 w }
 
 abbrev pub ModrmHeld : ModrmHead → ℕ → Type 0
 ModrmHeld = Holds modrmWord modrmIn
@@ -35,6 +37,8 @@ pub record ModrmFits (h : ModrmHead) : Type 0 where
   pub byte : h .byte < 256
   pub taken : h .taken < words
   pub register : h .register < 256
+  pub written : h .written < 256
+  pub reserved : h .reserved < words
 
 -- the second word: what mod and rm name
 pub record Modrm : Type 0 where
@@ -52,8 +56,9 @@ pub record ModrmWritten (r : Modrm) (w : List ℕ) : Type 0 where
   pub packed : w ≡ modrmWords r
   pub kept : modrmRecordIn w ≡ r
 
-abbrev pub modrmBy : ℕ → ℕ → ℕ → ℕ → ModrmHead
-modrmBy refusal byte taken register = record { refusal = refusal; byte = byte; taken = taken; register = register; reserved = 0 }
+abbrev pub modrmBy : ℕ → ℕ → ℕ → ℕ → ℕ → ModrmHead
+modrmBy refusal byte taken register written =
+    record { refusal = refusal; byte = byte; taken = taken; register = register; written = written; reserved = 0 }
 
 abbrev pub namedFields : RegisterOrMemory → Fields
 namedFields (RegisterOrMemory.Direct w) = fieldsOf 1 0 0 0 w 0
@@ -63,5 +68,5 @@ namedFields (RegisterOrMemory.DisplacementWord m d) = fieldsOf 4 0 (addressingCo
 namedFields (RegisterOrMemory.Register r) = fieldsOf 5 (registerCode r) 0 0 0 0
 
 abbrev pub modrmOf : MrrmRead → Modrm
-modrmOf (MrrmRead.Got m b n) = record { head = modrmBy 0 b n (registerCode (m .register)); operand = namedFields (m .«register_or_memory») }
-modrmOf (MrrmRead.Refused e n) = record { head = modrmBy (numberOf e) (byteOf e) n 0; operand = noOperand }
+modrmOf (MrrmRead.Got m b w n) = record { head = modrmBy 0 b n (registerCode (m .register)) w; operand = namedFields (m .«register_or_memory») }
+modrmOf (MrrmRead.Refused e n) = record { head = modrmBy (numberOf e) (byteOf e) n 0 0; operand = noOperand }

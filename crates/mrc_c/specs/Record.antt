@@ -1,5 +1,5 @@
--- Rule 15.1: the record of an answer as C and Rust get it: its fields, and the five machine words that they are packed in. The displacement
--- bytes written and the third operand have their places, and are 0.
+-- Rule 15.1: the record of an answer as C and Rust get it: its fields, and the five machine words that they are packed in. The third operand has its
+-- place, and is 0.
 use Prim.Native.Nat.{ℕ, _+_, _<_}
 use mathlib.Core.Path.{_≡_}
 use mathlib.Core.List.{List, [], _∷_}
@@ -132,9 +132,9 @@ abbrev pub keptCode : Kept → ℕ
 keptCode Kept.None = 0
 keptCode (Kept.Some segment) = 1 + segmentCode segment
 
-abbrev pub bodyBy : ℕ → ℕ → ℕ → ℕ → ℕ → Body
-bodyBy operation repeat reach kept operands =
-    record { operation = operation; repeat = repeat; reach = reach; kept = kept; written = 0; operands = operands; reserved = 0 }
+abbrev pub bodyBy : ℕ → ℕ → ℕ → ℕ → ℕ → ℕ → Body
+bodyBy operation repeat reach kept written operands =
+    record { operation = operation; repeat = repeat; reach = reach; kept = kept; written = written; operands = operands; reserved = 0 }
 
 abbrev pub countOf : OperandSet → ℕ
 countOf OperandSet.None = 0
@@ -155,10 +155,10 @@ sourceOf (OperandSet.DestinationAndSource d s) = operandFields s
 abbrev pub recordOf : Answer → Record
 recordOf (Answer.Decoded i n p) = record {
   head = headOf (Answer.Decoded i n p);
-  body = bodyBy (operationNumber (i .operation)) (repeatCode (i .repeat)) (reachCode (i .reach)) (keptCode (i .kept)) (countOf (i .operands));
+  body = bodyBy (operationNumber (i .operation)) (repeatCode (i .repeat)) (reachCode (i .reach)) (keptCode (i .kept)) (i .written) (countOf (i .operands));
   destination = destinationOf (i .operands);
   source = sourceOf (i .operands);
   third = noOperand;
 }
 recordOf (Answer.Refused e n p) =
-    record { head = headOf (Answer.Refused e n p); body = bodyBy 0 0 0 0 0; destination = noOperand; source = noOperand; third = noOperand }
+    record { head = headOf (Answer.Refused e n p); body = bodyBy 0 0 0 0 0 0; destination = noOperand; source = noOperand; third = noOperand }

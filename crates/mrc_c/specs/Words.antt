@@ -8,15 +8,12 @@ use Rattle.mrc_instruction.specs.Widths.{words}
 abbrev pub from : ℕ → ℕ → ℕ
 from at n = 256 ^ at * n
 
--- the byte at a byte, the word from a byte on, and all from a byte on
+-- the byte at a byte, and the word from a byte on
 abbrev pub byteAt : ℕ → ℕ → ℕ
 byteAt at w = w / 256 ^ at % 256
 
 abbrev pub wordAt : ℕ → ℕ → ℕ
 wordAt at w = w / 256 ^ at % words
-
-abbrev pub restAt : ℕ → ℕ → ℕ
-restAt at w = w / 256 ^ at
 
 -- the machine word w holds a: it is what a is packed to, and a is what is read from it
 pub record Holds {A : Type 0} (pack : A → ℕ) (unpack : ℕ → A) (a : A) (w : ℕ) : Type 0 where

@@ -3,6 +3,7 @@ use crate::operands::fields_word;
 use crate::words::FROM_1;
 use crate::words::FROM_2;
 use crate::words::FROM_4;
+use crate::words::FROM_5;
 use mrc_instruction::mrrm::MrrmRead;
 use mrc_instruction::mrrm::RegisterOrMemory;
 use mrc_instruction::mrrm::read_mrrm;
@@ -34,11 +35,15 @@ fn named_word(named: RegisterOrMemory) -> u64
     }
 }
 
-fn modrm_word(refusal: u8, byte: u8, taken: usize, register: u8) -> u64
+fn modrm_word(refusal: u8, byte: u8, taken: usize, register: u8, written: u8) -> u64
     requires { ⌜ taken < words ⌝ }
-    ensures { λ r. ⌜ ModrmHeld (modrmBy refusal byte taken register) r ⌝ }
+    ensures { λ r. ⌜ ModrmHeld (modrmBy refusal byte taken register written) r ⌝ }
 {
-    (refusal as u64) + FROM_1 * (byte as u64) + FROM_2 * (taken as u64) + FROM_4 * (register as u64)
+    (refusal as u64)
+        + FROM_1 * (byte as u64)
+        + FROM_2 * (taken as u64)
+        + FROM_4 * (register as u64)
+        + FROM_5 * (written as u64)
 }
 
 fn modrm_record(read: MrrmRead) -> [u64; 2]
@@ -46,16 +51,16 @@ fn modrm_record(read: MrrmRead) -> [u64; 2]
     ensures { λ r. ⌜ ModrmWritten (modrmOf read) r ⌝ }
 {
     match read {
-        MrrmRead::Got(mrrm, byte, taken) => {
+        MrrmRead::Got(mrrm, byte, written, taken) => {
             let register = mrrm.register;
             let named = mrrm.register_or_memory;
             return [
-                modrm_word(0, byte, taken, register.into_encoding()),
+                modrm_word(0, byte, taken, register.into_encoding(), written),
                 named_word(named),
             ];
         }
         MrrmRead::Refused(refusal, taken) => {
-            return [modrm_word(refusal.number(), refusal.byte(), taken, 0), 0];
+            return [modrm_word(refusal.number(), refusal.byte(), taken, 0, 0), 0];
         }
     }
 }

@@ -24,13 +24,14 @@ fn head_word(refusal: u8, byte: u8, taken: usize, prefixes: usize) -> u64
     (refusal as u64) + FROM_1 * (byte as u64) + FROM_2 * (taken as u64) + FROM_4 * (prefixes as u64)
 }
 
-fn body_word(operation: u8, repeat: u8, reach: u8, kept: u8, operands: u8) -> u64
-    ensures { λ r. ⌜ BodyHeld (bodyBy operation repeat reach kept operands) r ⌝ }
+fn body_word(operation: u8, repeat: u8, reach: u8, kept: u8, written: u8, operands: u8) -> u64
+    ensures { λ r. ⌜ BodyHeld (bodyBy operation repeat reach kept written operands) r ⌝ }
 {
     (operation as u64)
         + FROM_1 * (repeat as u64)
         + FROM_2 * (reach as u64)
         + FROM_3 * (kept as u64)
+        + FROM_4 * (written as u64)
         + FROM_5 * (operands as u64)
 }
 
@@ -81,6 +82,7 @@ pub fn record_of(answer: Answer) -> [u64; 5]
             let repeat = instruction.repeat;
             let reach = instruction.reach;
             let kept = instruction.kept;
+            let written = instruction.written;
             let head = head_word(0, 0, taken, prefixes);
             let number = operation.number();
             let code = repeat_code(repeat);
@@ -89,17 +91,17 @@ pub fn record_of(answer: Answer) -> [u64; 5]
             match operands {
                 OperandSet::None => return [
                     head,
-                    body_word(number, code, distance, held, 0),
+                    body_word(number, code, distance, held, written, 0),
                     0,
                     0,
                     0,
                 ],
                 OperandSet::Destination(destination) => {
-                    let body = body_word(number, code, distance, held, 1);
+                    let body = body_word(number, code, distance, held, written, 1);
                     return [head, body, operand_word(destination), 0, 0];
                 }
                 OperandSet::DestinationAndSource(destination, source) => {
-                    let body = body_word(number, code, distance, held, 2);
+                    let body = body_word(number, code, distance, held, written, 2);
                     return [
                         head,
                         body,

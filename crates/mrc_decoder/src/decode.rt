@@ -22,6 +22,7 @@ use mrc_directed::shifts::shift_by_cl;
 use mrc_directed::shifts::shift_by_immediate;
 use mrc_directed::shifts::shift_by_one;
 use mrc_forms::answers::reaching;
+use mrc_forms::answers::writing;
 use mrc_forms::forms::bare;
 use mrc_forms::forms::escape;
 use mrc_forms::forms::far;
@@ -36,6 +37,7 @@ use mrc_instruction::errors::Refusal;
 use mrc_instruction::instruction::Reach;
 use mrc_instruction::mrrm::OperandRead;
 use mrc_instruction::mrrm::read_operand;
+use mrc_instruction::operand::Operand;
 use mrc_instruction::operand::OperandSize;
 use mrc_instruction::operation::Operation;
 use mrc_instruction::reading::Reading;
@@ -46,7 +48,7 @@ ghost use Prim.Native.Nat.{_≤_};
 ghost use lib.ListN.{drop};
 ghost use Rattle.mrc_rules.specs.Forms.{_⦂_};
 ghost use Rattle.mrc_rules.specs.Decode.{decodeAt};
-ghost use Rattle.mrc_forms.specs.Answers.{readBy, readIn};
+ghost use Rattle.mrc_forms.specs.Answers.{readBy, readIn, readBehindIn};
 ghost use Rattle.mrc_decoder.specs.Form.{aloneRow, modRMForm};
 ghost use Rattle.mrc_rules.specs.Answer.{taken};
 ghost use Rattle.mrc_decoder.specs.Decode.{countedFrom};
@@ -66,61 +68,82 @@ fn opcode_alone(form: OpcodeAlone, opcode: u8, at: usize) -> Answer
     }
 }
 
-// A form with a ModRM, from the position behind the opcode on: the operand of a size that the ModRM names, and what follows.
-fn with_modrm(form: WithModRM, size: OperandSize, s: &[u8], at: usize, reading: Reading) -> Answer
-    ensures { λ r. ⌜ r ≡ readIn reading 0 (modRMForm form ⦂ size) at (drop at (now (s .entry))) ⌝ }
+// What a form reads behind its ModRM, by the operand that this names, its byte and the position behind it.
+fn behind_modrm(
+    form: WithModRM,
+    size: OperandSize,
+    operand: Operand,
+    byte: u8,
+    s: &[u8],
+    next: usize,
+    reading: Reading,
+) -> Answer
+    ensures { λ r. ⌜ r ≡ readBehindIn reading (modRMForm form) size operand byte next (drop next (now (s .entry))) ⌝ }
 {
-    match read_operand(size, s, at, reading) {
-        OperandRead::Got(operand, next, byte) => match form {
-            WithModRM::Pop => return pop(operand, byte, next),
-            WithModRM::OnRegisterOrMemory(group) => return on_register_or_memory(
-                group,
+    match form {
+        WithModRM::Pop => return pop(operand, byte, next),
+        WithModRM::OnRegisterOrMemory(group) => return on_register_or_memory(
+            group,
+            size,
+            operand,
+            byte,
+            next,
+        ),
+        WithModRM::GroupF6 => return group_f6(size, operand, byte, s, next),
+        WithModRM::RmReg(operation) => {
+            return register_or_memory_and_register(
+                operation,
+                Direction::RegMemFirst, // rm,reg
                 size,
                 operand,
                 byte,
                 next,
-            ),
-            WithModRM::GroupF6 => return group_f6(size, operand, byte, s, next),
-            WithModRM::RmReg(operation) => {
-                return register_or_memory_and_register(
-                    operation,
-                    Direction::RegMemFirst, // rm,reg
-                    size,
-                    operand,
-                    byte,
-                    next,
-                );
-            }
-            WithModRM::RegRm(operation) => {
-                return register_or_memory_and_register(
-                    operation,
-                    Direction::RegFirst, // reg,rm
-                    size,
-                    operand,
-                    byte,
-                    next,
-                );
-            }
-            WithModRM::RmSegment => return register_or_memory_and_segment(
-                Direction::RegMemFirst, // rm,segment
+            );
+        }
+        WithModRM::RegRm(operation) => {
+            return register_or_memory_and_register(
+                operation,
+                Direction::RegFirst, // reg,rm
+                size,
                 operand,
                 byte,
                 next,
-            ),
-            WithModRM::SegmentRm => return register_or_memory_and_segment(
-                Direction::RegFirst, // segment,rm
-                operand,
-                byte,
-                next,
-            ),
-            WithModRM::ImmediateToRegisterOrMemory(group) => {
-                return immediate_to_register_or_memory(group, size, operand, byte, s, next);
-            }
-            WithModRM::Group83 => return group_83(operand, byte, s, next, reading),
-            WithModRM::ShiftByImmediate => return shift_by_immediate(operand, byte, s, next),
-            WithModRM::ShiftByOne => return shift_by_one(operand, byte, next),
-            WithModRM::ShiftByCl => return shift_by_cl(size, operand, byte, next, reading),
-        },
+            );
+        }
+        WithModRM::RmSegment => return register_or_memory_and_segment(
+            Direction::RegMemFirst, // rm,segment
+            operand,
+            byte,
+            next,
+        ),
+        WithModRM::SegmentRm => return register_or_memory_and_segment(
+            Direction::RegFirst, // segment,rm
+            operand,
+            byte,
+            next,
+        ),
+        WithModRM::ImmediateToRegisterOrMemory(group) => {
+            return immediate_to_register_or_memory(group, size, operand, byte, s, next);
+        }
+        WithModRM::Group83 => return group_83(operand, byte, s, next, reading),
+        WithModRM::ShiftByImmediate => return shift_by_immediate(operand, byte, s, next),
+        WithModRM::ShiftByOne => return shift_by_one(operand, byte, next),
+        WithModRM::ShiftByCl => return shift_by_cl(size, operand, byte, next, reading),
+    }
+}
+
+// A form with a ModRM, from the position behind the opcode on: the operand of a size that the ModRM names, and what follows. How many displacement bytes
+// were written is set here, for all of them.
+fn with_modrm(form: WithModRM, size: OperandSize, s: &[u8], at: usize, reading: Reading) -> Answer
+    ensures { λ r. ⌜ r ≡ readIn reading 0 (modRMForm form ⦂ size) at (drop at (now (s .entry))) ⌝ }
+{
+    match read_operand(size, s, at, reading) {
+        OperandRead::Got(operand, next, byte, written) => {
+            return writing(
+                written,
+                behind_modrm(form, size, operand, byte, s, next, reading),
+            );
+        }
         OperandRead::Refused(e, end) => return Answer::Refused {
             refusal: e,
             taken: end,

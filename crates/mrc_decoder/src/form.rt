@@ -188,9 +188,17 @@ pub fn form_of(opcode: u8, reading: Reading) -> Form
         0x8E => Form::WithModRM(WithModRM::SegmentRm, OperandSize::Word),
         0x8F => Form::WithModRM(WithModRM::Pop, OperandSize::Word),
         0x90 => Form::OpcodeAlone(OpcodeAlone::Bare(Operation::NOP)),
+        0x91 | 0x93 | 0x95 | 0x97 => Form::OpcodeAlone(OpcodeAlone::Exchange),
+        0x92 | 0x94 | 0x96 => Form::OpcodeAlone(OpcodeAlone::Exchange),
         0x98 => Form::OpcodeAlone(OpcodeAlone::Bare(Operation::CBW)),
         0x99 => Form::OpcodeAlone(OpcodeAlone::Bare(Operation::CWD)),
-        0x9A => Form::Far(Operation::CALL),
+        0x9A | 0xEA => {
+            if opcode == 0x9A {
+                Form::Far(Operation::CALL)
+            } else {
+                Form::Far(Operation::JMP)
+            }
+        }
         0x9B => Form::OpcodeAlone(OpcodeAlone::Bare(Operation::WAIT)),
         0x9C => Form::OpcodeAlone(OpcodeAlone::Bare(Operation::PUSHF)),
         0x9D => Form::OpcodeAlone(OpcodeAlone::Bare(Operation::POPF)),
@@ -202,6 +210,8 @@ pub fn form_of(opcode: u8, reading: Reading) -> Form
         0xA5 => Form::OpcodeAlone(OpcodeAlone::Bare(Operation::MOVSW)),
         0xA6 => Form::OpcodeAlone(OpcodeAlone::Bare(Operation::CMPSB)),
         0xA7 => Form::OpcodeAlone(OpcodeAlone::Bare(Operation::CMPSW)),
+        0xA8 => Form::ImmediateToAccumulator(Operation::TEST),
+        0xA9 => Form::ImmediateToAccumulator(Operation::TEST),
         0xAA => Form::OpcodeAlone(OpcodeAlone::Bare(Operation::STOSB)),
         0xAB => Form::OpcodeAlone(OpcodeAlone::Bare(Operation::STOSW)),
         0xAC => Form::OpcodeAlone(OpcodeAlone::Bare(Operation::LODSB)),
@@ -244,10 +254,11 @@ pub fn form_of(opcode: u8, reading: Reading) -> Form
         0xE3 => Form::OnDisplacement(Operation::JCXZ, OperandSize::Byte, Reach::Neither),
         0xE8 => Form::OnDisplacement(Operation::CALL, OperandSize::Word, Reach::Near),
         0xE9 => Form::OnDisplacement(Operation::JMP, OperandSize::Word, Reach::Near),
-        0xEA => Form::Far(Operation::JMP),
         0xEB => Form::OnDisplacement(Operation::JMP, OperandSize::Byte, Reach::Near),
         0xF0 => Form::OpcodeAlone(OpcodeAlone::Bare(Operation::LOCK)),
         0xF1 => Form::OpcodeAlone(OpcodeAlone::Bare(Operation::INT1)),
+        0xF2 => Form::Repeat,
+        0xF3 => Form::Repeat,
         0xF4 => Form::OpcodeAlone(OpcodeAlone::Bare(Operation::HLT)),
         0xF5 => Form::OpcodeAlone(OpcodeAlone::Bare(Operation::CMC)),
         0xF6 => Form::WithModRM(WithModRM::GroupF6, OperandSize::Byte),
@@ -258,17 +269,19 @@ pub fn form_of(opcode: u8, reading: Reading) -> Form
         0xFB => Form::OpcodeAlone(OpcodeAlone::Bare(Operation::STI)),
         0xFC => Form::OpcodeAlone(OpcodeAlone::Bare(Operation::CLD)),
         0xFD => Form::OpcodeAlone(OpcodeAlone::Bare(Operation::STD)),
-        0xFE => Form::WithModRM(WithModRM::OnRegisterOrMemory(GROUP_FE), OperandSize::Byte),
-        0xFF => Form::WithModRM(WithModRM::OnRegisterOrMemory(GROUP_FE), OperandSize::Word),
         0x60..=0x6F => Form::Invalid,
-        0x91..=0x97 => Form::OpcodeAlone(OpcodeAlone::Exchange),
-        0xA8..=0xA9 => Form::ImmediateToAccumulator(Operation::TEST),
         0xC8..=0xC9 => Form::Invalid,
         0xD8..=0xDF => escaped(reading),
         0xE4..=0xE5 => Form::InPort,
         0xE6..=0xE7 => Form::OutPort,
         0xEC..=0xED => Form::OpcodeAlone(OpcodeAlone::InDx),
         0xEE..=0xEF => Form::OpcodeAlone(OpcodeAlone::OutDx),
-        0xF2..=0xF3 => Form::Repeat,
+        0xFE..=0xFF => {
+            if opcode == 0xFE {
+                Form::WithModRM(WithModRM::OnRegisterOrMemory(GROUP_FE), OperandSize::Byte)
+            } else {
+                Form::WithModRM(WithModRM::OnRegisterOrMemory(GROUP_FE), OperandSize::Word)
+            }
+        }
     }
 }

@@ -2,7 +2,7 @@
 -- all that is read.
 -- Assumes nothing.
 use Prim.Native.Nat.{ℕ}
-use mathlib.Core.Path.{_≡_, refl, ap, _∙_}
+use mathlib.Core.Path.{_≡_, refl, sym, ap, _∙_}
 use mathlib.Core.Bool.{Bool, true, false, cond}
 use mathlib.Core.List.{List, [], _∷_}
 use lib.Dec.{ltb}
@@ -11,7 +11,9 @@ use Rattle.mrc_instruction.specs.declared.reading.Reading.{Reading}
 use Rattle.mrc_instruction.specs.declared.operand.Operand.{Operand}
 use Rattle.mrc_instruction.specs.declared.operand.OperandSize.{OperandSize}
 use Rattle.mrc_instruction.specs.Reader.{Reader, done, refuse, next, Outcome, got, stopped, more, readFrom, _>>=_}
-use Rattle.mrc_instruction.specs.Mrrm.{regField, aModRM}
+use Rattle.mrc_instruction.specs.Instruction.{wrote}
+use Rattle.mrc_instruction.specs.Mrrm.{regField, aModRM, writtenIn}
+use Rattle.mrc_instruction.proofs.Sequence.{through, then}
 use Rattle.mrc_rules.specs.Forms.{Tail, ModRMForm, _⦂_, rmSegment, segmentRm, withModRM, behind, rest, rm}
 use Rattle.mrc_directed.specs.Order.{exchanged, exchangedIn}
 
@@ -26,12 +28,26 @@ mirrored (refuse e) f g h l = refl
 mirrored (next k) f g h [] = refl
 mirrored (next k) f g h (b ∷ l) = ap more (mirrored (k b) f g h l) ∙ more-exchanged (readFrom (k b >>= f) l)
 
+-- the displacement bytes written are no operand
+wrote-exchanged : (written : ℕ) (o : Outcome Tail)
+    → through (λ i n. got (wrote written i) 0) (exchangedIn o) ≡ exchangedIn (through (λ i n. got (wrote written i) 0) o)
+wrote-exchanged written (got i n) = refl
+wrote-exchanged written (stopped e n) = refl
+
+mirrored-wrote : (written : ℕ) (f g : Reader Tail) (l : List ℕ) → readFrom g l ≡ exchangedIn (readFrom f l)
+    → readFrom (g >>= λ i. done (wrote written i)) l ≡ exchangedIn (readFrom (f >>= λ i. done (wrote written i)) l)
+mirrored-wrote written f g l h =
+    then g (λ i. done (wrote written i)) l
+    ∙ ap (through (λ i n. got (wrote written i) 0)) h
+    ∙ wrote-exchanged written (readFrom f l)
+    ∙ ap exchangedIn (sym (then f (λ i. done (wrote written i)) l))
+
 -- the same of two forms with a ModRM, by what is read behind it
 pub mirrored-behind : (x : Reading) (f g : ModRMForm) (size : OperandSize)
     → ((operand : Operand) (byte : ℕ) (l : List ℕ) → readFrom (behind x g size operand byte) l ≡ exchangedIn (readFrom (behind x f size operand byte) l))
     → (opcode : ℕ) (l : List ℕ) → readFrom (rest x opcode (g ⦂ size)) l ≡ exchangedIn (readFrom (rest x opcode (f ⦂ size)) l)
 unfolding withModRM
-mirrored-behind x f g size h opcode = mirrored aModRM _ _ (λ m. h (rm x m size) (m .byte))
+mirrored-behind x f g size h opcode = mirrored aModRM _ _ (λ m l. mirrored-wrote (writtenIn m) (behind x f size (rm x m size) (m .byte)) (behind x g size (rm x m size) (m .byte)) l (h (rm x m size) (m .byte) l))
 
 -- 8E and 8C: both refuse, or neither
 tested : (t : Bool) (i : Tail) (e : Refusal) (l : List ℕ)

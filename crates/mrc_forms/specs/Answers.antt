@@ -9,7 +9,7 @@ use Rattle.mrc_instruction.specs.declared.operand.Operand.{Operand}
 use Rattle.mrc_instruction.specs.declared.operand.OperandSize.{OperandSize}
 use Rattle.mrc_instruction.specs.declared.instruction.Repeated.{Repeated}
 use Rattle.mrc_instruction.specs.declared.instruction.Reach.{Reach}
-use Rattle.mrc_instruction.specs.Instruction.{reached}
+use Rattle.mrc_instruction.specs.Instruction.{reached, wrote}
 use Rattle.mrc_instruction.specs.Reader.{Outcome, readFrom}
 use Rattle.mrc_instruction.specs.Values.{Values, carrying}
 use Rattle.mrc_instruction.specs.Read.{answered}
@@ -41,6 +41,11 @@ readBehind = readBehindIn One
 abbrev pub reachedAnswer : Reach → Answer → Answer
 reachedAnswer reach (Answer.Decoded i n p) = Answer.Decoded (reached reach i) n p
 reachedAnswer reach (Answer.Refused e n p) = Answer.Refused e n p
+
+-- the same answer, with the displacement bytes that its instruction was written with
+abbrev pub wroteAnswer : ℕ → Answer → Answer
+wroteAnswer written (Answer.Decoded i n p) = Answer.Decoded (wrote written i) n p
+wroteAnswer written (Answer.Refused e n p) = Answer.Refused e n p
 
 -- in numbers, by the position that it was read from
 abbrev pub formValues : ℕ → Answer → Values

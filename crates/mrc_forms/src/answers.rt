@@ -8,7 +8,7 @@ use mrc_rules::Answer;
 ghost use mathlib.Core.Path.{_≡_};
 ghost use Rattle.mrc_instruction.specs.Instruction.{plain};
 ghost use Rattle.mrc_rules.specs.declared.Answer.{Answer};
-ghost use Rattle.mrc_forms.specs.Answers.{reachedAnswer};
+ghost use Rattle.mrc_forms.specs.Answers.{reachedAnswer, wroteAnswer};
 
 // An operation on operands, neither near nor far, with the position behind its bytes.
 pub fn decoded(operation: Operation, operands: OperandSet, end: usize) -> Answer
@@ -32,6 +32,32 @@ pub fn reaching(reach: Reach, read: Answer) -> Answer
             prefixes,
         } => Answer::Decoded {
             instruction: instruction.reaching(reach),
+            taken,
+            prefixes,
+        },
+        Answer::Refused {
+            refusal,
+            taken,
+            prefixes,
+        } => Answer::Refused {
+            refusal,
+            taken,
+            prefixes,
+        },
+    }
+}
+
+// The same answer, with the displacement bytes that its instruction was written with.
+pub fn writing(written: u8, read: Answer) -> Answer
+    ensures { λ r. ⌜ r ≡ wroteAnswer written read ⌝ }
+{
+    match read {
+        Answer::Decoded {
+            instruction,
+            taken,
+            prefixes,
+        } => Answer::Decoded {
+            instruction: instruction.writing(written),
             taken,
             prefixes,
         },

@@ -10,7 +10,7 @@ use Rattle.mrc_instruction.specs.declared.mrrm.RegisterOrMemoryRead.{Reg
 use Rattle.mrc_instruction.specs.declared.mrrm.MrrmRead.{MrrmRead}
 use Rattle.mrc_instruction.specs.Reader.{Outcome, got, stopped}
 use Rattle.mrc_instruction.specs.Mrrm.{ModRM}
-use Rattle.mrc_instruction.specs.Read.{answered, byteRead, wordRead, registerOrMemoryRead, mrrmRead}
+use Rattle.mrc_instruction.specs.Read.{answered, byteRead, wordRead, registerOrMemoryRead, mrrmGot, mrrmRead}
 
 -- where `back` undoes both cases of an answer, it undoes the answer
 module _ {A R : Type 0} (whenGot : A → ℕ → R) (whenRefused : Refusal → ℕ → R) (back : R → Outcome A)
@@ -44,8 +44,8 @@ pub register-or-memory-is : {r : RegisterOrMemoryRead} {o : Outcome RegisterOrMe
 register-or-memory-is = heard RegisterOrMemoryRead.Got RegisterOrMemoryRead.Refused registerOrMemoryOut (λ a n. refl) (λ e n. refl)
 
 abbrev pub mrrmOut : MrrmRead → Outcome ModRM
-mrrmOut (MrrmRead.Got m b n) = got (record { byte = b; mrrm = m }) n
+mrrmOut (MrrmRead.Got m b w n) = got (record { byte = b; mrrm = m }) n
 mrrmOut (MrrmRead.Refused e n) = stopped e n
 
 pub mrrm-is : {r : MrrmRead} {o : Outcome ModRM} → r ≡ mrrmRead o → mrrmOut r ≡ o
-mrrm-is = heard (λ m n. MrrmRead.Got (m .mrrm) (m .byte) n) MrrmRead.Refused mrrmOut (λ a n. refl) (λ e n. refl)
+mrrm-is = heard mrrmGot MrrmRead.Refused mrrmOut (λ a n. refl) (λ e n. refl)

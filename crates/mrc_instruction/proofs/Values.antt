@@ -25,8 +25,8 @@ use Rattle.mrc_instruction.specs.Reader.{Reader, Outcome, got, stopped, 
 use Rattle.mrc_instruction.specs.Values.{Values, carrying, refusedWith, outcomeValues, OfReader}
 use Rattle.mrc_instruction.specs.Register.{registerField, registerValues, RegisterNamed, segmentField, segmentValues, SegmentNamed}
 use Rattle.mrc_instruction.specs.Operand.{addressingField, addressingValues, AddressingNamed}
-use Rattle.mrc_instruction.specs.Mrrm.{ModRM, registerOrMemory, aModRM, operandOf}
-use Rattle.mrc_instruction.specs.Read.{answered, byteRead, wordRead, registerOrMemoryRead, mrrmRead, operandRead, byteValues, wordValues, registerOrMemoryValues, mrrmValues, MrrmAt, operandValues}
+use Rattle.mrc_instruction.specs.Mrrm.{registerOrMemory, aModRM}
+use Rattle.mrc_instruction.specs.Read.{answered, byteRead, wordRead, registerOrMemoryRead, mrrmGot, mrrmRead, operandGot, operandRead, byteValues, wordValues, registerOrMemoryValues, mrrmValues, MrrmAt, operandValues}
 use Rattle.mrc_instruction.proofs.Sequence.{taken-le}
 use Rattle.mrc_instruction.proofs.Ends.{Takes, Ended, ends, takes-byte, takes-word, takes-register-or-memory, takes-modrm}
 
@@ -84,17 +84,14 @@ register-or-memory mode rm l =
     answer-says RegisterOrMemoryRead.Got RegisterOrMemoryRead.Refused registerOrMemoryValues (λ x n. refl) (λ e n. refl) (registerOrMemory mode rm) l
     (takes-register-or-memory mode rm)
 
-abbrev whenGot : ModRM → ℕ → MrrmRead
-whenGot m n = MrrmRead.Got (m .mrrm) (m .byte) n
-
 pub mrrm : (l : List ℕ) → OfReader (length l) (mrrmValues (mrrmRead (readFrom aModRM l)))
-mrrm l = answer-says whenGot MrrmRead.Refused mrrmValues (λ m n. refl) (λ e n. refl) aModRM l takes-modrm
+mrrm l = answer-says mrrmGot MrrmRead.Refused mrrmValues (λ m n. refl) (λ e n. refl) aModRM l takes-modrm
 
 pub mrrm-at : (s : List ℕ) (at : ℕ) {r : MrrmRead} → r ≡ mrrmRead (readAt aModRM s at) → MrrmAt s at r
 mrrm-at s at e = record {
   answer = e;
-  outside = λ h. rw e (outside-says whenGot MrrmRead.Refused mrrmValues (λ m n. refl) (λ e n. refl) aModRM s at h);
-  inside = λ h. rw e (inside-says whenGot MrrmRead.Refused mrrmValues (λ m n. refl) (λ e n. refl) aModRM s at h takes-modrm);
+  outside = λ h. rw e (outside-says mrrmGot MrrmRead.Refused mrrmValues (λ m n. refl) (λ e n. refl) aModRM s at h);
+  inside = λ h. rw e (inside-says mrrmGot MrrmRead.Refused mrrmValues (λ m n. refl) (λ e n. refl) aModRM s at h takes-modrm);
 }
 
 -- it holds the position behind the bytes taken
@@ -103,5 +100,5 @@ back at n = omega arith
 
 pub operand : (x : Reading) (size : OperandSize) (at : ℕ) (l : List ℕ) → OfReader (length l) (operandValues at (operandRead x size at (readFrom aModRM l)))
 operand x size at l =
-    answer-says (λ m n. OperandRead.Got (operandOf x size (m .mrrm .«register_or_memory»)) (at + n) (m .byte)) (λ e n. OperandRead.Refused e (at + n)) (operandValues at)
+    answer-says (operandGot x size at) (λ e n. OperandRead.Refused e (at + n)) (operandValues at)
     (λ m n. ap (λ k. carrying 0 0 k 0) (back at n)) (λ e n. ap (λ k. refusedWith e k 0) (back at n)) aModRM l takes-modrm

@@ -41,6 +41,21 @@ aModRM = do
   x ← registerOrMemory (b / 64) (b % 8)
   done (modRM b x)
 
+-- rule 4.6: how many displacement bytes were written
+abbrev pub writtenBy : RegisterOrMemory → ℕ
+writtenBy (RegisterOrMemory.Direct w) = 2
+writtenBy (RegisterOrMemory.Indirect mode) = 0
+writtenBy (RegisterOrMemory.DisplacementByte mode d) = 1
+writtenBy (RegisterOrMemory.DisplacementWord mode d) = 2
+writtenBy (RegisterOrMemory.Register r) = 0
+
+-- what mod and rm of a ModRM name, and how many displacement bytes it was written with
+abbrev pub memory : ModRM → RegisterOrMemory
+memory m = m .mrrm .«register_or_memory»
+
+abbrev pub writtenIn : ModRM → ℕ
+writtenIn m = writtenBy (memory m)
+
 -- rule 4.3: a displacement of 0 is none
 abbrev pub orNone : (ℤ → Displacement) → ℤ → Displacement
 orNone written (pos zero) = Displacement.None

@@ -1,9 +1,10 @@
-// An instruction: its operation, its operands, how far it goes, whether it is repeated, and the override that it keeps.
+// An instruction: its operation, its operands, how far it goes, whether it is repeated, the override that it keeps, and how many displacement bytes it
+// was written with.
 use crate::operand::Operand;
 use crate::operation::Operation;
 use crate::register::Segment;
 ghost use mathlib.Core.Path.{_≡_};
-ghost use Rattle.mrc_instruction.specs.Instruction.{plain, reached, repeatedBy, onOperands, keepingIn};
+ghost use Rattle.mrc_instruction.specs.Instruction.{plain, reached, repeatedBy, onOperands, keepingIn, wrote};
 
 // The destination stands before the source.
 pub enum OperandSet {
@@ -36,17 +37,19 @@ pub enum Kept {
     Some(Segment),
 }
 
-// What is a byte or two stands first, but for the kept override: in an answer each operand then begins a machine word.
+// What is a byte or two stands first, but for the last two, which few instructions have: in an answer each operand then begins a machine word.
 pub struct Instruction {
     pub reach: Reach,
     pub repeat: Repeated,
     pub operation: Operation,
     pub operands: OperandSet,
     pub kept: Kept,
+    // The displacement bytes behind its ModRM: 0, 1 or 2.
+    pub written: u8,
 }
 
 impl Instruction {
-    // The instruction with no repeat, neither near nor far, that keeps no override.
+    // The instruction with no repeat, neither near nor far, that keeps no override and has no displacement bytes.
     pub fn new(operation: Operation, operands: OperandSet) -> Self
         ensures { λ r. ⌜ r ≡ plain operation operands ⌝ }
     {
@@ -56,6 +59,7 @@ impl Instruction {
             operation,
             operands,
             kept: Kept::None,
+            written: 0,
         }
     }
 
@@ -67,12 +71,14 @@ impl Instruction {
         let operation = self.operation;
         let operands = self.operands;
         let kept = self.kept;
+        let written = self.written;
         Self {
             reach,
             repeat,
             operation,
             operands,
             kept,
+            written,
         }
     }
 
@@ -84,12 +90,14 @@ impl Instruction {
         let operation = self.operation;
         let operands = self.operands;
         let kept = self.kept;
+        let written = self.written;
         Self {
             reach,
             repeat,
             operation,
             operands,
             kept,
+            written,
         }
     }
 
@@ -101,12 +109,14 @@ impl Instruction {
         let repeat = self.repeat;
         let operation = self.operation;
         let kept = self.kept;
+        let written = self.written; // under an override too
         Self {
             reach,
             repeat,
             operation,
             operands,
             kept,
+            written,
         }
     }
 
@@ -118,12 +128,33 @@ impl Instruction {
         let repeat = self.repeat;
         let operation = self.operation;
         let operands = self.operands;
+        let written = self.written;
         Self {
             reach,
             repeat,
             operation,
             operands,
             kept: Kept::Some(segment),
+            written,
+        }
+    }
+
+    // The same instruction, with the displacement bytes that it was written with.
+    pub fn writing(self, written: u8) -> Self
+        ensures { λ r. ⌜ r ≡ wrote written self ⌝ }
+    {
+        let reach = self.reach;
+        let repeat = self.repeat;
+        let operation = self.operation;
+        let operands = self.operands;
+        let kept = self.kept; // what it keeps stays
+        Self {
+            reach,
+            repeat,
+            operation,
+            operands,
+            kept,
+            written,
         }
     }
 }

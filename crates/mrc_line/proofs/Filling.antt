@@ -35,7 +35,7 @@ module _ (x : Reading) where
   line-some s at =
       let a = decodeAt x s at budget in
       let head = headText at (take (stepTaken a) (drop at s)) in
-      let body = bodyText at (getD s at 0) a in
+      let body = bodyText x at (getD s at 0) a in
       omega (arith, length-append head (body ++ lineEnd), length-append body lineEnd)
 
   pub starts : (s : List ℕ) (at : ℕ) (out : List ℕ) → Filling x s at out out 0 at

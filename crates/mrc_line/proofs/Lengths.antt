@@ -2,11 +2,12 @@
 -- Assumes nothing.
 use mathlib.Core.Path.{_≡_, refl}
 use mathlib.Core.List.{List, [], _∷_, _++_}
-use Prim.Native.Nat.{ℕ, _+_, _-_, _≤_}
+use Prim.Native.Nat.{ℕ, zero, suc, _+_, _-_, _≤_}
 use native.Mathlib.Omega.{arith}
 use lib.Dec.{lit≤}
 use lib.ListN.{length, take, getD, drop, replicate, length-append, length-take, length-replicate}
 use Rattle.mrc_instruction.specs.declared.reading.Reading.{Reading}
+use Rattle.mrc_instruction.specs.declared.reading.Reading.the-variants.{One, Two}
 use Rattle.mrc_instruction.specs.declared.register.RegisterEncoding.{RegisterEncoding}
 use Rattle.mrc_instruction.specs.declared.register.RegisterEncoding.the-variants.{AlAx, ClCx, DlDx, BlBx, AhSp, ChBp, DhSi, BhDi}
 use Rattle.mrc_instruction.specs.declared.register.Segment.{Segment}
@@ -31,7 +32,7 @@ use Rattle.mrc_rules.specs.Decode.{decodeAt}
 use Rattle.mrc_line.specs.Text.{bytes, hex4, pairs, padded, shown, fieldWidth}
 use Rattle.mrc_line.specs.declared.printed.Printed.{Printed}
 use Rattle.mrc_line.specs.Printed.{alone, beside}
-use Rattle.mrc_line.specs.Operands.{registerText, segmentText, modeText, sizeText, displacementText, immediateText, memoryText, printedText, operandText, operandsText}
+use Rattle.mrc_line.specs.Operands.{registerText, segmentText, modeText, sizeText, zerosText, offsetText, immediateText, memoryText, printedText, operandText, operandsText}
 use Rattle.mrc_line.specs.Line.{headText, repeatText, keptText, reachText, instructionText, bodyText, stepTaken, stepText, lineText, longest, budget}
 use Rattle.mrc_line.proofs.Put.{pairs-length}
 
@@ -73,10 +74,17 @@ size : (z : OperandSize) → length (sizeText z) ≡ 5
 size Byte = refl
 size Word = refl
 
-displacement : (d : Displacement) → length (displacementText d) ≤ 5
-displacement Displacement.None = lit≤ tt
-displacement (Displacement.Byte d) = lit≤ tt
-displacement (Displacement.Word d) = lit≤ tt
+zeros : (x : Reading) (written : ℕ) → length (zerosText x written) ≤ 5
+zeros One written = lit≤ tt
+zeros Two zero = lit≤ tt
+zeros Two (suc zero) = lit≤ tt
+zeros Two (suc (suc zero)) = lit≤ tt
+zeros Two (suc (suc (suc written))) = lit≤ tt
+
+offset : (x : Reading) (written : ℕ) (d : Displacement) → length (offsetText x written d) ≤ 5
+offset x written Displacement.None = zeros x written
+offset x written (Displacement.Byte d) = lit≤ tt
+offset x written (Displacement.Word d) = lit≤ tt
 
 immediate : (i : Immediate) → length (immediateText i) ≤ 4
 immediate (Immediate.Byte b) = lit≤ tt
@@ -92,21 +100,24 @@ printed (Printed.Signed Displacement.None) = lit≤ tt
 printed (Printed.Signed (Displacement.Byte d)) = lit≤ tt
 printed (Printed.Signed (Displacement.Word d)) = lit≤ tt
 
-operand : (f : Displacement → Printed) (o : Operand) → length (operandText f o) ≤ 20
-operand f (Operand.Direct s z offset) = memory z s (hex4 offset) (lit≤ tt)
-operand f (Operand.Indirect s z m d) =
-    memory z s (modeText m ++ displacementText d) (omega (arith, mode m, displacement d, length-append (modeText m) (displacementText d)))
-operand f (Operand.Register r) = omega (arith, register (r .0) (r .1))
-operand f (Operand.Segment s) = omega (arith, segment s)
-operand f (Operand.Immediate i) = omega (arith, immediate i)
-operand f (Operand.Displacement d) = omega (arith, printed (f d))
-operand f (Operand.SegmentAndOffset a) = lit≤ tt
+module _ (x : Reading) (written : ℕ) where
+  operand : (f : Displacement → Printed) (o : Operand) → length (operandText x written f o) ≤ 20
+  operand f (Operand.Direct s z at) = memory z s (hex4 at) (lit≤ tt)
+  operand f (Operand.Indirect s z m d) =
+      let t = offsetText x written d in
+      memory z s (modeText m ++ t) (omega (arith, mode m, offset x written d, length-append (modeText m) t))
+  operand f (Operand.Register r) = omega (arith, register (r .0) (r .1))
+  operand f (Operand.Segment s) = omega (arith, segment s)
+  operand f (Operand.Immediate i) = omega (arith, immediate i)
+  operand f (Operand.Displacement d) = omega (arith, printed (f d))
+  operand f (Operand.SegmentAndOffset a) = lit≤ tt
 
-operands : (operation : Operation) (start taken : ℕ) (o : OperandSet) → length (operandsText operation start taken o) ≤ 43
-operands operation start taken OperandSet.None = lit≤ tt
-operands operation start taken (OperandSet.Destination d) = omega (arith, operand (alone operation start taken) d)
-operands operation start taken (OperandSet.DestinationAndSource d s) =
-    omega (arith, operand beside d, operand beside s, length-append (operandText beside d) (bytes ", " ++ operandText beside s))
+  operands : (operation : Operation) (start taken : ℕ) (o : OperandSet) → length (operandsText x written operation start taken o) ≤ 43
+  operands operation start taken OperandSet.None = lit≤ tt
+  operands operation start taken (OperandSet.Destination d) = omega (arith, operand (alone operation start taken) d)
+  operands operation start taken (OperandSet.DestinationAndSource d s) =
+      let t = operandText x written beside in
+      omega (arith, operand beside d, operand beside s, length-append (t d) (bytes ", " ++ t s))
 
 head : (start : ℕ) (taken : List ℕ) → length (headText start taken) ≡ 29
 unfolding headText
@@ -128,23 +139,23 @@ reach Reach.Neither = lit≤ tt
 reach Reach.Near = lit≤ tt
 reach Reach.Far = lit≤ tt
 
-body : (start b : ℕ) (a : Answer) → length (bodyText start b a) ≤ 63
+body : (x : Reading) (start b : ℕ) (a : Answer) → length (bodyText x start b a) ≤ 63
 unfolding instructionText
-body start b (Answer.Decoded i n p) =
-    let o = operandsText (i .operation) start n (i .operands) in
+body x start b (Answer.Decoded i n p) =
+    let o = operandsText x (i .written) (i .operation) start n (i .operands) in
     let f = reachText (i .reach) in
     let m = nameOf (i .operation) in
     let k = keptText (i .kept) in
-    omega (arith, repeated (i .repeat), kept (i .kept), six-at-most (i .operation), reach (i .reach), operands (i .operation) start n (i .operands), length-append (repeatText (i .repeat)) (k ++ (m ++ (f ++ o))), length-append k (m ++ (f ++ o)), length-append m (f ++ o), length-append f o)
-body start b (Answer.Refused e n p) = lit≤ tt
+    omega (arith, repeated (i .repeat), kept (i .kept), six-at-most (i .operation), reach (i .reach), operands x (i .written) (i .operation) start n (i .operands), length-append (repeatText (i .repeat)) (k ++ (m ++ (f ++ o))), length-append k (m ++ (f ++ o)), length-append m (f ++ o), length-append f o)
+body x start b (Answer.Refused e n p) = lit≤ tt
 
-step : (s : List ℕ) (at : ℕ) (a : Answer) → length (stepText s at a) ≤ longest
+step : (x : Reading) (s : List ℕ) (at : ℕ) (a : Answer) → length (stepText x s at a) ≤ longest
 unfolding stepText
-step s at a =
+step x s at a =
     let t = take (stepTaken a) (drop at s) in
-    let b = bodyText at (getD s at 0) a in
-    omega (arith, head at t, body at (getD s at 0) a, length-append (headText at t) (b ++ (10 ∷ [])), length-append b (10 ∷ []))
+    let b = bodyText x at (getD s at 0) a in
+    omega (arith, head at t, body x at (getD s at 0) a, length-append (headText at t) (b ++ (10 ∷ [])), length-append b (10 ∷ []))
 
 pub line-longest : (x : Reading) (s : List ℕ) (at : ℕ) → length (lineText x s at) ≤ longest
 unfolding lineText
-line-longest x s at = step s at (decodeAt x s at budget)
+line-longest x s at = step x s at (decodeAt x s at budget)

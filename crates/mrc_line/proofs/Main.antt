@@ -2,7 +2,7 @@
 -- Assumes nothing.
 use mathlib.Core.Path.{_≡_, refl}
 use mathlib.Core.List.{List, [], _∷_, _++_, map}
-use Prim.Native.Nat.{ℕ, _*_, _<_, _≤_}
+use Prim.Native.Nat.{ℕ, _-_, _*_, _<_, _≤_}
 use native.Mathlib.Nat.{le-trans}
 use lib.IntN.{pos, negsuc}
 use lib.ListN.{length, take, drop}
@@ -22,6 +22,7 @@ use Rattle.mrc_rules.specs.Decode.{decodeAt}
 use Rattle.mrc_rules.specs.Operands.{byteAt}
 use Rattle.mrc_rules.specs.Reaches.{reachOf}
 use Rattle.mrc_rules.specs.Kept.{keptOf}
+use Rattle.mrc_rules.specs.Written.{writtenOf}
 use Rattle.mrc_line.specs.declared.line.LineAnswer.{LineAnswer}
 use Rattle.mrc_line.specs.declared.page.Page.{Page}
 use Rattle.mrc_line.specs.declared.printed.Printed.{Printed}
@@ -31,7 +32,7 @@ use Rattle.mrc_line.specs.Printed.{alone}
 use Rattle.mrc_line.specs.Operands.{printedText, operandsText}
 use Rattle.mrc_line.specs.Line.{headText, repeatText, keptText, reachText, lineText, lineEnd, longest, budget, Listed}
 use Rattle.mrc_line.specs.Page.{linesOf, textOf, bytesOf, takenOf, pageOf, pagesFrom, Paged}
-use Rattle.mrc_line.specs.Example.{image, printed, transfers, transfersPrinted, differences, differencesPrinted}
+use Rattle.mrc_line.specs.Example.{image, printed, transfers, transfersPrinted, differences, differencesPrinted, zeros, zerosPrinted}
 use Rattle.mrc_line.proofs.Settled as Settled
 use Rattle.mrc_line.proofs.Lengths as Lengths
 use Rattle.mrc_line.proofs.Returns as Returns
@@ -71,14 +72,15 @@ module _ (x : Reading) where
   returns-listed image at low high l h k = (Returns.near image at low high l h k x, Returns.far image at low high l h k x)
 
   -- a kept override stands between repeat and name, and FAR between name and operands, exactly where the bytes say so: by the first override, the first
-  -- byte behind the prefixes, and reg
+  -- byte behind the prefixes, and reg; and an operand in memory is printed by the bytes between ModRM and immediate
   pub printed-by-the-bytes :
       (image : List ℕ) (at : ℕ) (i : Instruction) (n p : ℕ) → Bytes image → decodeAt x image at budget ≡ Answer.Decoded i n p →
       let kept = keptText (keptOf x (first isOverride (runOf (drop at image))) (byteAt (tailOf (drop at image)) 0)) in
       let far = reachText (reachOf (tailOf (drop at image))) in
+      let written = writtenOf x (take (n - p) (tailOf (drop at image))) in
       lineText x image at
       ≡ headText at (take n (drop at image))
-      ++ ((repeatText (i .repeat) ++ (kept ++ (nameOf (i .operation) ++ (far ++ operandsText (i .operation) at n (i .operands))))) ++ lineEnd)
+      ++ ((repeatText (i .repeat) ++ (kept ++ (nameOf (i .operation) ++ (far ++ operandsText x written (i .operation) at n (i .operands))))) ++ lineEnd)
   printed-by-the-bytes = ByBytes.by-the-bytes x
 
   -- the lines of an image account for all its bytes, for each once
@@ -120,3 +122,7 @@ transfer-example = Example.transfer-lines
 
 pub second-example : map (lineText Two differences) (linesOf Two differences) ≡ map (λ t. bytes t ++ lineEnd) differencesPrinted
 second-example = Example.second-lines
+
+-- displacements of 0, written in none, one and two bytes, in each reading
+pub zeros-example : (x : Reading) → map (lineText x zeros) (linesOf x zeros) ≡ map (λ t. bytes t ++ lineEnd) (zerosPrinted x)
+zeros-example = Example.zero-lines

@@ -55,10 +55,10 @@ module _ (s : List ℕ) (at low high : ℕ) (l : List ℕ) (low-byte : low < 256
   -- an instruction of three bytes that prints as a name and its word
   listed :
       (x : Reading) (name : List ℕ) (opcode : ℕ) (i : Instruction) → There opcode → decodeAt x s at budget ≡ Answer.Decoded i 3 0 →
-      instructionText at 3 i ≡ name ++ hex4 (low + 256 * high) → lineText x s at ≡ text name opcode
+      instructionText x at 3 i ≡ name ++ hex4 (low + 256 * high) → lineText x s at ≡ text name opcode
   unfolding lineText stepText
   listed x name opcode i there decoded printed =
-      ap (stepText s at) decoded ∙ ap (λ (y : List ℕ). headText at (take 3 y) ++ (instructionText at 3 i ++ lineEnd)) there
+      ap (stepText x s at) decoded ∙ ap (λ (y : List ℕ). headText at (take 3 y) ++ (instructionText x at 3 i ++ lineEnd)) there
       ∙ ap (λ (y : List ℕ). headText at (opcode ∷ low ∷ high ∷ []) ++ (y ++ lineEnd)) (printed ∙ ap (λ (y : List ℕ). name ++ y) (digits low high low-byte))
       ∙ ap (λ (y : List ℕ). headText at (opcode ∷ low ∷ high ∷ []) ++ y) (append-assoc name (hex2 high ++ hex2 low) lineEnd)
 

@@ -39,9 +39,9 @@ module _ (x : Reading) where
 
   -- what was decoded at a position makes the line there
   module _ (s : List ℕ) (at : ℕ) {a : Answer} (e : a ≡ decodeAt x s at budget) where
-    pub text-is : stepText s at a ≡ lineText x s at
+    pub text-is : stepText x s at a ≡ lineText x s at
     unfolding lineText
-    text-is = ap (stepText s at) e
+    text-is = ap (stepText x s at) e
 
     pub taken-is : stepTaken a ≡ lineTaken x s at
     unfolding lineTaken

@@ -1,7 +1,10 @@
--- Rules 16.4 to 16.6: thirteen bytes, and the six lines that they list as; calls, jumps and returns, near and far; and what reading 2 has otherwise.
+-- Rules 16.4 to 16.7: thirteen bytes, and the six lines that they list as; calls, jumps and returns, near and far; what reading 2 has otherwise; and
+-- displacements of 0, written and not.
 use mathlib.Core.List.{List, [], _∷_}
 use Prim.Native.Nat.{ℕ}
 use Prim.Native.String.{String}
+use Rattle.mrc_instruction.specs.declared.reading.Reading.{Reading}
+use Rattle.mrc_instruction.specs.declared.reading.Reading.the-variants.{One, Two}
 
 abbrev pub image : List ℕ
 image = 0x26 ∷ 0x8B ∷ 0x47 ∷ 0xFE ∷ 0xF3 ∷ 0xA4 ∷ 0x75 ∷ 0xF8 ∷ 0x83 ∷ 0xC0 ∷ 0xFF ∷ 0x60 ∷ 0x8B ∷ []
@@ -104,4 +107,32 @@ differencesPrinted =
     ∷ "0034  36 D7                  SS: XLATB"
     ∷ "0036  26                     DB 26"
     ∷ "0037  AA                     STOSB"
+    ∷ []
+
+abbrev pub zeros : List ℕ
+zeros =
+    0x8B ∷ 0x07
+    ∷ 0x8B ∷ 0x47 ∷ 0x00
+    ∷ 0x8B ∷ 0x87 ∷ 0x00 ∷ 0x00
+    ∷ 0xC6 ∷ 0x46 ∷ 0x00 ∷ 0x05
+    ∷ 0x26 ∷ 0xFF ∷ 0x77 ∷ 0x00
+    ∷ 0x8B ∷ 0x47 ∷ 0x01
+    ∷ []
+
+abbrev pub zerosPrinted : Reading → List String
+zerosPrinted One =
+    "0000  8B 07                  MOV AX, WORD DS:[BX]"
+    ∷ "0002  8B 47 00               MOV AX, WORD DS:[BX]"
+    ∷ "0005  8B 87 00 00            MOV AX, WORD DS:[BX]"
+    ∷ "0009  C6 46 00 05            MOV BYTE DS:[BP], 05"
+    ∷ "000D  26 FF 77 00            PUSH WORD ES:[BX]"
+    ∷ "0011  8B 47 01               MOV AX, WORD DS:[BX+01]"
+    ∷ []
+zerosPrinted Two =
+    "0000  8B 07                  MOV AX, WORD DS:[BX]"
+    ∷ "0002  8B 47 00               MOV AX, WORD DS:[BX+00]"
+    ∷ "0005  8B 87 00 00            MOV AX, WORD DS:[BX+0000]"
+    ∷ "0009  C6 46 00 05            MOV BYTE SS:[BP+00], 05"
+    ∷ "000D  26 FF 77 00            PUSH WORD ES:[BX+00]"
+    ∷ "0011  8B 47 01               MOV AX, WORD DS:[BX+01]"
     ∷ []

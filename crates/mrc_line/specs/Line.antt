@@ -47,19 +47,19 @@ abbrev pub lineEnd : List ℕ
 lineEnd = 10 ∷ []
 
 -- rule 12.2: repeat, kept override, name, FAR and operands of an instruction that starts at an offset and takes so many bytes
-unfoldable pub instructionText : ℕ → ℕ → Instruction → List ℕ
-instructionText start taken i =
+unfoldable pub instructionText : Reading → ℕ → ℕ → Instruction → List ℕ
+instructionText x start taken i =
     repeatText (i .repeat)
-    ++ (keptText (i .kept) ++ (nameOf (i .operation) ++ (reachText (i .reach) ++ operandsText (i .operation) start taken (i .operands))))
+    ++ (keptText (i .kept) ++ (nameOf (i .operation) ++ (reachText (i .reach) ++ operandsText x (i .written) (i .operation) start taken (i .operands))))
 
 -- rule 12.7: a byte at which nothing decodes
 abbrev pub dbText : ℕ → List ℕ
 dbText b = bytes "DB " ++ hex2 b
 
 -- rules 12.2 and 12.7: what stands behind the byte field, by what was decoded and the first byte
-abbrev pub bodyText : ℕ → ℕ → Answer → List ℕ
-bodyText start b (Answer.Decoded i n p) = instructionText start n i
-bodyText start b (Answer.Refused e n p) = dbText b
+abbrev pub bodyText : Reading → ℕ → ℕ → Answer → List ℕ
+bodyText x start b (Answer.Decoded i n p) = instructionText x start n i
+bodyText x start b (Answer.Refused e n p) = dbText b
 
 -- rules 12.7 and 12.9: the bytes that a line accounts for
 abbrev pub stepTaken : Answer → ℕ
@@ -72,8 +72,8 @@ stepPrefixes (Answer.Decoded i n p) = p
 stepPrefixes (Answer.Refused e n p) = 0
 
 -- the line of what was decoded at a position of an image
-unfoldable pub stepText : List ℕ → ℕ → Answer → List ℕ
-stepText s at a = headText at (take (stepTaken a) (drop at s)) ++ (bodyText at (getD s at 0) a ++ lineEnd)
+unfoldable pub stepText : Reading → List ℕ → ℕ → Answer → List ℕ
+stepText x s at a = headText at (take (stepTaken a) (drop at s)) ++ (bodyText x at (getD s at 0) a ++ lineEnd)
 
 -- rule 12.8: the most bytes that a line has, whatever the record
 abbrev pub longest : ℕ
@@ -87,7 +87,7 @@ budget = 15
 module _ (x : Reading) where
   -- the line at a position of an image, the bytes that it accounts for, and its prefixes
   unfoldable pub lineText : List ℕ → ℕ → List ℕ
-  lineText s at = stepText s at (decodeAt x s at budget)
+  lineText s at = stepText x s at (decodeAt x s at budget)
 
   unfoldable pub lineTaken : List ℕ → ℕ → ℕ
   lineTaken s at = stepTaken (decodeAt x s at budget)

@@ -2,6 +2,9 @@
 use mathlib.Core.List.{List, [], _∷_, _++_}
 use Prim.Native.Nat.{ℕ, _/_, _%_}
 use lib.IntN.{ℤ, pos, negsuc, natAbs}
+use lib.ListN.{getD}
+use Rattle.mrc_instruction.specs.declared.reading.Reading.{Reading}
+use Rattle.mrc_instruction.specs.declared.reading.Reading.the-variants.{One, Two}
 use Rattle.mrc_instruction.specs.declared.register.RegisterEncoding.{RegisterEncoding}
 use Rattle.mrc_instruction.specs.declared.register.RegisterEncoding.the-variants.{AlAx, ClCx, DlDx, BlBx, AhSp, ChBp, DhSi, BhDi}
 use Rattle.mrc_instruction.specs.declared.register.Segment.{Segment}
@@ -70,6 +73,17 @@ displacementText Displacement.None = []
 displacementText (Displacement.Byte d) = signOf d ∷ hex2 (natAbs d)
 displacementText (Displacement.Word d) = signOf d ∷ hex4 (natAbs d)
 
+-- rule 12.4: where it is None: the zero bytes that were written, which reading 1 does not print
+abbrev pub zerosText : Reading → ℕ → List ℕ
+zerosText One written = []
+zerosText Two written = getD ([] ∷ bytes "+00" ∷ bytes "+0000" ∷ []) written []
+
+-- a displacement within brackets that was written in so many bytes
+abbrev pub offsetText : Reading → ℕ → Displacement → List ℕ
+offsetText x written Displacement.None = zerosText x written
+offsetText x written (Displacement.Byte d) = displacementText (Displacement.Byte d)
+offsetText x written (Displacement.Word d) = displacementText (Displacement.Word d)
+
 -- rule 12.4: immediates
 abbrev pub immediateText : Immediate → List ℕ
 immediateText (Immediate.Byte b) = hex2 b
@@ -89,23 +103,23 @@ abbrev pub printedText : Printed → List ℕ
 printedText (Printed.Word w) = hex4 w
 printedText (Printed.Signed d) = signedText d
 
--- rule 12.4: an operand, by what is printed for a displacement
-abbrev pub operandText : (Displacement → Printed) → Operand → List ℕ
-operandText printed (Operand.Direct segment size offset) = memoryText size segment (hex4 offset)
-operandText printed (Operand.Indirect segment size mode displacement) =
-    memoryText size segment (modeText mode ++ displacementText displacement)
-operandText printed (Operand.Register register) = registerText (register .0) (register .1)
-operandText printed (Operand.Segment segment) = segmentText segment
-operandText printed (Operand.Immediate immediate) = immediateText immediate
-operandText printed (Operand.Displacement displacement) = printedText (printed displacement)
-operandText printed (Operand.SegmentAndOffset address) = hex4 (address .segment) ++ (bytes ":" ++ hex4 (address .offset))
+-- rule 12.4: an operand of an instruction that has so many displacement bytes, by what is printed for a displacement
+abbrev pub operandText : Reading → ℕ → (Displacement → Printed) → Operand → List ℕ
+operandText x written printed (Operand.Direct segment size offset) = memoryText size segment (hex4 offset)
+operandText x written printed (Operand.Indirect segment size mode displacement) =
+    memoryText size segment (modeText mode ++ offsetText x written displacement)
+operandText x written printed (Operand.Register register) = registerText (register .0) (register .1)
+operandText x written printed (Operand.Segment segment) = segmentText segment
+operandText x written printed (Operand.Immediate immediate) = immediateText immediate
+operandText x written printed (Operand.Displacement displacement) = printedText (printed displacement)
+operandText x written printed (Operand.SegmentAndOffset address) = hex4 (address .segment) ++ (bytes ":" ++ hex4 (address .offset))
 
 -- rule 12.2: the destination before the source
-abbrev pub operandsText : Operation → ℕ → ℕ → OperandSet → List ℕ
-operandsText operation start taken OperandSet.None = []
-operandsText operation start taken (OperandSet.Destination destination) = bytes " " ++ operandText (alone operation start taken) destination
-operandsText operation start taken (OperandSet.DestinationAndSource destination source) =
-    bytes " " ++ (operandText beside destination ++ (bytes ", " ++ operandText beside source))
+abbrev pub operandsText : Reading → ℕ → Operation → ℕ → ℕ → OperandSet → List ℕ
+operandsText x written operation start taken OperandSet.None = []
+operandsText x written operation start taken (OperandSet.Destination destination) = bytes " " ++ operandText x written (alone operation start taken) destination
+operandsText x written operation start taken (OperandSet.DestinationAndSource destination source) =
+    bytes " " ++ (operandText x written beside destination ++ (bytes ", " ++ operandText x written beside source))
 
 -- Internal: a register's name by number: the low three bits are the register's field, and the bit above them is the size's.
 abbrev pub registerNameAt : ℕ → List ℕ

@@ -9,13 +9,14 @@ use crate::text::put_hex4;
 use mrc_instruction::operand::AddressingMode;
 use mrc_instruction::operand::Displacement;
 use mrc_instruction::operand::OperandSize;
+use mrc_instruction::reading::Reading;
 use mrc_instruction::register::Segment;
 ghost use mathlib.Core.Path.{_≡_};
 ghost use mathlib.Core.List.{_++_};
 ghost use Prim.Native.Nat.{_+_, _≤_};
 ghost use lib.ListN.{length};
 ghost use Rattle.mrc_line.specs.Text.{Put, hex4, bytes};
-ghost use Rattle.mrc_line.specs.Operands.{sizeText, segmentText, modeText, displacementText, memoryText};
+ghost use Rattle.mrc_line.specs.Operands.{sizeText, segmentText, modeText, displacementText, zerosText, offsetText, memoryText};
 
 fn size_name(size: OperandSize) -> [u8; 4]
     ensures { λ r. ⌜ r ++ bytes " " ≡ sizeText size ⌝ }
@@ -71,6 +72,39 @@ pub fn put_displacement(buf: &mut [u8], at: usize, displacement: Displacement) -
     }
 }
 
+// Where it is None: in reading 2 the zero bytes that were written.
+fn put_zeros(buf: &mut [u8], at: usize, written: u8, reading: Reading) -> usize
+    requires { ⌜ at + 5 ≤ length (now buf) ⌝ }
+    ensures { λ r. ⌜ Put 5 (now (buf .entry)) at (zerosText reading written) (now (buf .exit)) r ⌝ }
+{
+    match reading {
+        Reading::One => at,
+        Reading::Two => match written {
+            1 => put_bytes(buf, at, b"+00"),
+            2 => put_bytes(buf, at, b"+0000"),
+            _ => at,
+        },
+    }
+}
+
+// A displacement within brackets, which was written in so many bytes.
+fn put_offset(
+    buf: &mut [u8],
+    at: usize,
+    displacement: Displacement,
+    written: u8,
+    reading: Reading,
+) -> usize
+    requires { ⌜ at + 5 ≤ length (now buf) ⌝ }
+    ensures { λ r. ⌜ Put 5 (now (buf .entry)) at (offsetText reading written displacement) (now (buf .exit)) r ⌝ }
+{
+    match displacement {
+        Displacement::None => put_zeros(buf, at, written, reading),
+        Displacement::Byte(_) => put_displacement(buf, at, displacement),
+        Displacement::Word(_) => put_displacement(buf, at, displacement),
+    }
+}
+
 // What stands before the address: the size, the segment and the bracket.
 fn put_opening(buf: &mut [u8], at: usize, size: OperandSize, segment: Segment) -> usize
     requires { ⌜ at + 9 ≤ length (now buf) ⌝ }
@@ -103,12 +137,14 @@ pub fn put_indirect(
     mode: AddressingMode,
     displacement: Displacement,
     size: OperandSize,
+    written: u8,
+    reading: Reading,
 ) -> usize
     requires { ⌜ at + 20 ≤ length (now buf) ⌝ }
-    ensures { λ r. ⌜ Put 20 (now (buf .entry)) at (memoryText size segment (modeText mode ++ displacementText displacement)) (now (buf .exit)) r ⌝ }
+    ensures { λ r. ⌜ Put 20 (now (buf .entry)) at (memoryText size segment (modeText mode ++ offsetText reading written displacement)) (now (buf .exit)) r ⌝ }
 {
     let o = put_opening(buf, at, size, segment);
     let m = put_mode(buf, o, mode);
-    let c = put_displacement(buf, m, displacement);
+    let c = put_offset(buf, m, displacement, written, reading);
     put_byte(buf, c, b']')
 }

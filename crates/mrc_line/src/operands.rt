@@ -1,4 +1,4 @@
-// The text of operands, the destination before the source.
+// The text of operands, the destination before the source. Each is of an instruction with so many displacement bytes written.
 use crate::memory::put_direct;
 use crate::memory::put_displacement;
 use crate::memory::put_indirect;
@@ -16,6 +16,7 @@ use mrc_instruction::operand::Displacement;
 use mrc_instruction::operand::Immediate;
 use mrc_instruction::operand::Operand;
 use mrc_instruction::operation::Operation;
+use mrc_instruction::reading::Reading;
 ghost use mathlib.Core.List.{_++_};
 ghost use Prim.Native.Nat.{_+_, _≤_};
 ghost use lib.ListN.{length};
@@ -68,14 +69,14 @@ fn put_printed(buf: &mut [u8], at: usize, printed: Printed) -> usize
 }
 
 // An operand beside another.
-fn put_operand(buf: &mut [u8], at: usize, operand: Operand) -> usize
+fn put_operand(buf: &mut [u8], at: usize, written: u8, reading: Reading, operand: Operand) -> usize
     requires { ⌜ at + 20 ≤ length (now buf) ⌝ }
-    ensures { λ r. ⌜ Put 20 (now (buf .entry)) at (operandText beside operand) (now (buf .exit)) r ⌝ }
+    ensures { λ r. ⌜ Put 20 (now (buf .entry)) at (operandText reading written beside operand) (now (buf .exit)) r ⌝ }
 {
     match operand {
         Operand::Direct(segment, size, offset) => put_direct(buf, at, segment, offset, size),
         Operand::Indirect(segment, size, mode, displacement) => {
-            put_indirect(buf, at, segment, mode, displacement, size)
+            put_indirect(buf, at, segment, mode, displacement, size, written, reading)
         }
         Operand::Register(register) => put_register(buf, at, register),
         Operand::Segment(segment) => put_segment(buf, at, segment),
@@ -86,33 +87,35 @@ fn put_operand(buf: &mut [u8], at: usize, operand: Operand) -> usize
 }
 
 // The same: a register, as most operands are, without a further call.
-fn put_beside(buf: &mut [u8], at: usize, operand: Operand) -> usize
+fn put_beside(buf: &mut [u8], at: usize, written: u8, reading: Reading, operand: Operand) -> usize
     requires { ⌜ at + 20 ≤ length (now buf) ⌝ }
-    ensures { λ r. ⌜ Put 20 (now (buf .entry)) at (operandText beside operand) (now (buf .exit)) r ⌝ }
+    ensures { λ r. ⌜ Put 20 (now (buf .entry)) at (operandText reading written beside operand) (now (buf .exit)) r ⌝ }
 {
     match operand {
         Operand::Register(register) => put_register(buf, at, register),
-        _ => put_operand(buf, at, operand),
+        _ => put_operand(buf, at, written, reading, operand),
     }
 }
 
-// A destination that stands alone.
+// A sole operand.
 fn put_sole(
     buf: &mut [u8],
     at: usize,
     operation: Operation,
     start: u16,
     taken: u16,
-    destination: Operand,
+    written: u8,
+    reading: Reading,
+    sole: Operand,
 ) -> usize
     requires { ⌜ at + 20 ≤ length (now buf) ⌝ }
-    ensures { λ r. ⌜ Put 20 (now (buf .entry)) at (operandText (alone operation start taken) destination) (now (buf .exit)) r ⌝ }
+    ensures { λ r. ⌜ Put 20 (now (buf .entry)) at (operandText reading written (alone operation start taken) sole) (now (buf .exit)) r ⌝ }
 {
-    match destination {
+    match sole {
         Operand::Displacement(displacement) => {
             put_printed(buf, at, alone(operation, start, taken, displacement))
         }
-        _ => put_operand(buf, at, destination),
+        _ => put_operand(buf, at, written, reading, sole),
     }
 }
 
@@ -123,14 +126,16 @@ fn put_alone(
     operation: Operation,
     start: u16,
     taken: u16,
-    destination: Operand,
+    written: u8,
+    reading: Reading,
+    sole: Operand,
 ) -> usize
     requires { ⌜ at + 20 ≤ length (now buf) ⌝ }
-    ensures { λ r. ⌜ Put 20 (now (buf .entry)) at (operandText (alone operation start taken) destination) (now (buf .exit)) r ⌝ }
+    ensures { λ r. ⌜ Put 20 (now (buf .entry)) at (operandText reading written (alone operation start taken) sole) (now (buf .exit)) r ⌝ }
 {
-    match destination {
+    match sole {
         Operand::Register(register) => put_register(buf, at, register),
-        _ => put_sole(buf, at, operation, start, taken, destination),
+        _ => put_sole(buf, at, operation, start, taken, written, reading, sole),
     }
 }
 
@@ -141,22 +146,33 @@ pub fn put_operands(
     operation: Operation,
     start: u16,
     taken: u16,
+    written: u8,
+    reading: Reading,
     operands: OperandSet,
 ) -> usize
     requires { ⌜ at + 43 ≤ length (now buf) ⌝ }
-    ensures { λ r. ⌜ Put 43 (now (buf .entry)) at (operandsText operation start taken operands) (now (buf .exit)) r ⌝ }
+    ensures { λ r. ⌜ Put 43 (now (buf .entry)) at (operandsText reading written operation start taken operands) (now (buf .exit)) r ⌝ }
 {
     match operands {
         OperandSet::None => at,
         OperandSet::Destination(destination) => {
             let d = put_byte(buf, at, b' ');
-            put_alone(buf, d, operation, start, taken, destination)
+            put_alone(
+                buf,
+                d,
+                operation,
+                start,
+                taken,
+                written,
+                reading,
+                destination,
+            )
         }
         OperandSet::DestinationAndSource(destination, source) => {
             let d = put_byte(buf, at, b' ');
-            let c = put_beside(buf, d, destination);
+            let c = put_beside(buf, d, written, reading, destination);
             let s = put_bytes(buf, c, b", ");
-            put_beside(buf, s, source)
+            put_beside(buf, s, written, reading, source)
         }
     }
 }

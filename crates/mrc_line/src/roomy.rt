@@ -14,7 +14,11 @@ pub fn roomy_lines(out: &mut [u8], image: &[u8], at: usize, reading: Reading) ->
 {
     let mut len = 0;
     let mut next = at;
-    while next < image.len() && LONGEST <= out.len() - len {
+    if out.len() < LONGEST {
+        return Page { len, next };
+    }
+    let last = out.len() - LONGEST;
+    while next < image.len() && len <= last {
         let w = write_step(&mut out[len..], image, next, reading);
         len += w.end;
         next += w.taken;

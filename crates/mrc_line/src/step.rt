@@ -1,9 +1,8 @@
-// The line of one step of a listing, from its offset to its LF.
+// What a line of a step of a listing has before its LF: the offset, the bytes, and what they came to.
 use crate::names::put_name;
 use crate::operands::put_operands;
 use crate::registers::put_segment;
 use crate::text::SHOWN;
-use crate::text::put_byte;
 use crate::text::put_bytes;
 use crate::text::put_field;
 use crate::text::put_hex2;
@@ -13,13 +12,14 @@ use mrc_instruction::instruction::Kept;
 use mrc_instruction::instruction::Reach;
 use mrc_instruction::instruction::Repeat;
 use mrc_instruction::instruction::Repeated;
+use mrc_instruction::reading::Reading;
 use mrc_rules::Answer;
 ghost use mathlib.Core.Path.{_≡_};
 ghost use Prim.Native.Nat.{_+_, _<_, _≤_, min};
 ghost use lib.ListN.{length};
 ghost use Rattle.mrc_line.specs.Target.{offsets};
 ghost use Rattle.mrc_line.specs.Text.{Put};
-ghost use Rattle.mrc_line.specs.Line.{headText, repeatText, keptText, reachText, instructionText, dbText, bodyText, stepText, stepTaken, longest};
+ghost use Rattle.mrc_line.specs.Line.{headText, repeatText, keptText, reachText, instructionText, dbText, bodyText, stepTaken};
 
 fn least(a: usize, b: usize) -> usize
     ensures { λ r. ⌜ r ≡ min a b ⌝ }
@@ -28,7 +28,7 @@ fn least(a: usize, b: usize) -> usize
 }
 
 // The offset, its high byte first, and the bytes taken.
-fn put_head(buf: &mut [u8], at: usize, start: u16, taken: &[u8]) -> usize
+pub fn put_head(buf: &mut [u8], at: usize, start: u16, taken: &[u8]) -> usize
     requires { ⌜ at + 29 ≤ length (now buf) ⌝ }
     ensures { λ r. ⌜ Put 29 (now (buf .entry)) at (headText start (now (taken .entry))) (now (buf .exit)) r ⌝ }
 {
@@ -86,20 +86,22 @@ fn put_instruction(
     start: u16,
     taken: u16,
     instruction: Instruction,
+    reading: Reading,
 ) -> usize
     requires { ⌜ at + 63 ≤ length (now buf) ⌝ }
-    ensures { λ r. ⌜ Put 63 (now (buf .entry)) at (instructionText start taken instruction) (now (buf .exit)) r ⌝ }
+    ensures { λ r. ⌜ Put 63 (now (buf .entry)) at (instructionText reading start taken instruction) (now (buf .exit)) r ⌝ }
 {
     let reach = instruction.reach;
     let repeat = instruction.repeat;
     let kept = instruction.kept;
     let operation = instruction.operation;
     let operands = instruction.operands;
+    let written = instruction.written;
     let a = put_repeat(buf, at, repeat);
     let b = put_kept(buf, a, kept);
     let c = put_name(buf, b, operation);
     let d = put_reach(buf, c, reach);
-    put_operands(buf, d, operation, start, taken, operands)
+    put_operands(buf, d, operation, start, taken, written, reading, operands)
 }
 
 // A byte that is not decoded.
@@ -112,7 +114,7 @@ fn put_db(buf: &mut [u8], at: usize, byte: u8) -> usize
 }
 
 // How many bytes a step accounts for.
-fn step_taken(answer: Answer) -> usize
+pub fn step_taken(answer: Answer) -> usize
     ensures { λ r. ⌜ r ≡ stepTaken answer ⌝ }
 {
     match answer {
@@ -130,40 +132,27 @@ fn step_taken(answer: Answer) -> usize
 }
 
 // What stands behind the bytes: the instruction, or its first byte.
-fn put_body(buf: &mut [u8], at: usize, start: u16, byte: u8, answer: Answer) -> usize
+pub fn put_body(
+    buf: &mut [u8],
+    at: usize,
+    start: u16,
+    byte: u8,
+    answer: Answer,
+    reading: Reading,
+) -> usize
     requires { ⌜ (at + 63 ≤ length (now buf)) × (stepTaken answer < offsets) ⌝ }
-    ensures { λ r. ⌜ Put 63 (now (buf .entry)) at (bodyText start byte answer) (now (buf .exit)) r ⌝ }
+    ensures { λ r. ⌜ Put 63 (now (buf .entry)) at (bodyText reading start byte answer) (now (buf .exit)) r ⌝ }
 {
     match answer {
         Answer::Decoded {
             instruction,
             taken,
             prefixes: _,
-        } => put_instruction(buf, at, start, taken as u16, instruction),
+        } => put_instruction(buf, at, start, taken as u16, instruction, reading),
         Answer::Refused {
             refusal: _,
             taken: _,
             prefixes: _,
         } => put_db(buf, at, byte),
     }
-}
-
-// Where a line ends, and the bytes that it accounts for.
-pub struct Written {
-    pub end: usize,
-    pub taken: usize,
-}
-
-// The line of what was decoded at a position of an image.
-pub fn put_step(buf: &mut [u8], at: usize, image: &[u8], start: usize, answer: Answer) -> Written
-    requires { ⌜ (at + longest ≤ length (now buf)) × (start < offsets) × (1 ≤ stepTaken answer) × (stepTaken answer < offsets) × (start + stepTaken answer ≤ length (now image)) ⌝ }
-    ensures { λ r. ⌜ Put longest (now (buf .entry)) at (stepText (now (image .entry)) start answer) (now (buf .exit)) (r .end) × (r .taken ≡ stepTaken answer) ⌝ }
-{
-    let taken = step_taken(answer);
-    let next = start + taken;
-    let offset = start as u16;
-    let a = put_head(buf, at, offset, &image[start..next]);
-    let b = put_body(buf, a, offset, image[start], answer);
-    let end = put_byte(buf, b, b'\n');
-    Written { end, taken }
 }

@@ -1,6 +1,6 @@
--- The operands of a decode are those that specs/Operands finds by the place of their bits; its operation, how far it goes and the override that it keeps
--- are what specs/Operations, specs/Reaches and specs/Kept find by the first byte and reg: of a tail, then under the prefixes of a decode, whose first
--- repeat it has.
+-- The operands of a decode, and the displacement bytes that it was written with, are those that specs/Operands and specs/Written find by their place; its
+-- operation, how far it goes and the override that it keeps are what specs/Operations, specs/Reaches and specs/Kept find by the first byte and reg: of a
+-- tail, then under the prefixes of a decode, whose first repeat it has.
 -- Assumes nothing.
 use mathlib.Core.Path.{_≡_, refl, sym, ap, subst, _∙_}
 use mathlib.Core.Bool.{Bool, true, false, cond, _&&_}
@@ -23,6 +23,7 @@ use Rattle.mrc_rules.specs.Decode.{tail, resultOf, together, answer, dec
 use Rattle.mrc_rules.specs.Operands.{byteAt, operandsOf, inSegments, underFirst}
 use Rattle.mrc_rules.specs.Operations.{operationOf}
 use Rattle.mrc_rules.specs.Reaches.{reachOf}
+use Rattle.mrc_rules.specs.Written.{writtenOf}
 use Rattle.mrc_rules.specs.Refusals.{keepsAt}
 use Rattle.mrc_rules.specs.Kept.{keptOf}
 use Rattle.mrc_rules.proofs.Runs.{bytes-from, tail-byte}
@@ -34,6 +35,7 @@ pub record InPlace (x : Reading) (l : List ℕ) (i : Tail) (n : ℕ) : Type 0 wh
   pub operands : i .operands ≡ operandsOf x (take n l)
   pub operation : operationOf l ≡ some (i .operation)
   pub reach : reachOf l ≡ i .reach
+  pub written : i .written ≡ writtenOf x (take n l)
   pub keeper : byteAt l 0 < 256 → keepsAt x (byteAt l 0) ≡ isNone (i .operands) && keeps x (i .operation)
   pub nothing-kept : i .kept ≡ Kept.None
 
@@ -47,7 +49,7 @@ tail-placed x (opcode ∷ l) = go (tail (rules x) (opcode ∷ l)) (tail-comes x 
   where
     go : (o : Outcome Tail) → Comes x (opcode ∷ l) o → TailPlaced x (opcode ∷ l) o
     go (got i n) h =
-        record { operands = h .operands; operation = h .operation; reach = h .reach; keeper = h .keeper; nothing-kept = h .nothing-kept }
+        record { operands = h .operands; operation = h .operation; reach = h .reach; written = h .written; keeper = h .keeper; nothing-kept = h .nothing-kept }
     go (stopped e n) h = tt
 
 -- of a decode's answer
@@ -55,6 +57,7 @@ pub record Placed (x : Reading) (l : List ℕ) (i : Instruction) (n : ℕ) : Typ
   pub operands : i .operands ≡ underFirst (first isOverride (runOf l)) (operandsOf x (take n (tailOf l)))
   pub operation : operationOf (tailOf l) ≡ some (i .operation)
   pub reach : i .reach ≡ reachOf (tailOf l)
+  pub written : i .written ≡ writtenOf x (take n (tailOf l))
   pub repeat : i .repeat ≡ repeatOf (first isRepeat (runOf l))
   pub kept : byteAt (tailOf l) 0 < 256 → i .kept ≡ keptOf x (first isOverride (runOf l)) (byteAt (tailOf l) 0)
 
@@ -73,6 +76,7 @@ module _ (x : Reading) (l : List ℕ) (o : ℕ) (i : Tail) (k n p : ℕ) (h : In
     operands = rw (f, c) (ap (inSegments (overrideSegment o)) (sym e ∙ h .operands));
     operation = h .operation;
     reach = sym (h .reach);
+    written = rw c (h .written);
     repeat = refl;
     kept = λ b. rw (f, h .keeper b, e, there) (h .nothing-kept);
   }
@@ -83,6 +87,7 @@ module _ (x : Reading) (l : List ℕ) (o : ℕ) (i : Tail) (k n p : ℕ) (h : In
     operands = rw (f, c) (e ∙ ap (inSegments (overrideSegment o)) (sym e ∙ h .operands));
     operation = h .operation;
     reach = sym (h .reach);
+    written = rw c (h .written);
     repeat = refl;
     kept = λ b. rw (f, h .keeper b, e, t) refl;
   }
@@ -99,6 +104,7 @@ result-placed x l none (got i k) n p c f h = record {
   operands = rw (f, c) (h .operands);
   operation = h .operation;
   reach = sym (h .reach);
+  written = rw c (h .written);
   repeat = refl;
   kept = λ b. rw f (h .nothing-kept);
 }
@@ -135,6 +141,10 @@ operation-named x s at b i n p e = subst (AnswerPlaced x (drop at s)) e (at-plac
 
 pub near-or-far : (x : Reading) (s : List ℕ) (at b : ℕ) (i : Instruction) (n p : ℕ) → decodeAt x s at b ≡ Answer.Decoded i n p → i .reach ≡ reachOf (tailOf (drop at s))
 near-or-far x s at b i n p e = subst (AnswerPlaced x (drop at s)) e (at-placed x s at b) .reach
+
+pub displacement-written : (x : Reading) (s : List ℕ) (at b : ℕ) (i : Instruction) (n p : ℕ) → decodeAt x s at b ≡ Answer.Decoded i n p
+    → i .written ≡ writtenOf x (take (n - p) (tailOf (drop at s)))
+displacement-written x s at b i n p e = subst (AnswerPlaced x (drop at s)) e (at-placed x s at b) .written
 
 pub first-repeat : (x : Reading) (s : List ℕ) (at b : ℕ) (i : Instruction) (n p : ℕ) → decodeAt x s at b ≡ Answer.Decoded i n p
     → i .repeat ≡ repeatOf (first isRepeat (runOf (drop at s)))

@@ -1,5 +1,5 @@
 -- The pieces of an instruction's bytes, and what they make by their places: ModRM, immediates and displacements. A row is walked along with
--- what its account says of operands, operation, length, distance and refusal.
+-- what its account says of operands, operation, length, distance, displacement bytes and refusal.
 -- Assumes nothing.
 use borrow.Author.Tests.{ne-eqb}
 use mathlib.Core.Path.{_≡_, refl, ap, sym, subst, _∙_}
@@ -26,13 +26,14 @@ use Rattle.mrc_instruction.specs.Reader.{Reader, done, _>>=_, aByte, aWord}
 use Rattle.mrc_instruction.specs.Signed.{signedByte, signedWord}
 use Rattle.mrc_instruction.specs.Register.{registerOf, segmentOf}
 use Rattle.mrc_instruction.specs.Operand.{addressingOf, segmentFor}
-use Rattle.mrc_instruction.specs.Mrrm.{registerOrMemory, modRM, aModRM, regField, operandOf}
+use Rattle.mrc_instruction.specs.Mrrm.{registerOrMemory, modRM, aModRM, regField, writtenBy, writtenIn, operandOf}
 use Rattle.mrc_rules.specs.Forms.{Tail, anImmediate, aDisplacement, register, rm, reg, segmentReg}
 use Rattle.mrc_rules.specs.Operands.{Place, Places, nothing, only, _⟵_, test, RM, REG, SEGREG, IMMED, REL, byteAt, lastByte, lastWord, regAt, segmentBy, named, operandAt, operandsAt}
 use Rattle.mrc_rules.specs.Operations.{nameAt}
 use Rattle.mrc_rules.specs.Prefixes.{keeps}
 use Rattle.mrc_rules.specs.Reaches.{reachAt}
 use Rattle.mrc_rules.specs.Lengths.{displacementBy, displacementBytes, lengthBy}
+use Rattle.mrc_rules.specs.Written.{between}
 use Rattle.mrc_rules.specs.Refusals.{read, refused, noPlaces}
 use Rattle.mrc_rules.proofs.Along.{Along, along-bind, last-byte, last-word}
 use Rattle.mrc_rules.proofs.Accounts.{Account, bytesIn, verdictBy}
@@ -69,7 +70,7 @@ Followed S l = (x : List ℕ) → S (l ++ x)
 pub at-end : (S : List ℕ → Type 0) (l : List ℕ) → Followed S l → S l
 at-end S l h = subst S (append-nil l) (h [])
 
-followed-by : (S : List ℕ → Type 0) (l y : List ℕ) → Followed S l → Followed S (l ++ y)
+pub followed-by : (S : List ℕ → Type 0) (l y : List ℕ) → Followed S l → Followed S (l ++ y)
 followed-by S l y h x = subst S (sym (append-assoc l y x)) (h (y ++ x))
 
 -- what a ModRM's operand of a size and its byte say of the bytes that they were read from
@@ -106,6 +107,7 @@ segment-by Two (suc (suc (suc (suc (suc (suc (suc (suc n)))))))) =
 pub record Names (reading : Reading) (b mode field : ℕ) (x : RegisterOrMemory) (l : List ℕ) : Type 0 where
   pub is : (size : OperandSize) → operandOf reading size x ≡ named reading mode field size l
   pub behind : byteAt l 1 ≡ b
+  pub count : writtenBy x ≡ displacementBy mode field
 
 -- what an account says where a byte is asked for, of a refusal, and of what was read
 module _ (c : Account) where
@@ -116,8 +118,8 @@ module _ (c : Account) where
     pub whole : (x : List ℕ) → lengthBy (c .extra) (l ++ x) ≡ length l
     pub told : (x : List ℕ) → verdictBy (c .bar) (l ++ x) ≡ refused (numberOf e) (byteOf e)
 
-module _ (reading : Reading) (c : Account) where
-  pub record ReadBy (i : Tail) (l : List ℕ) : Type 0 where
+module _ (reading : Reading) (c : Account) (bytes : List ℕ → ℕ) where
+  pub record ReadWith (i : Tail) (l : List ℕ) : Type 0 where
     pub operands : i .operands ≡ operandsAt reading l (c .places)
     pub operation : (x : List ℕ) → nameAt (l ++ x) (c .name) ≡ some (i .operation)
     pub reach : (x : List ℕ) → reachAt (l ++ x) (c .distance) ≡ i .reach
@@ -125,9 +127,21 @@ module _ (reading : Reading) (c : Account) where
     pub told : (x : List ℕ) → verdictBy (c .bar) (l ++ x) ≡ read
     pub keeper : isNone (i .operands) && keeps reading (i .operation) ≡ c .keeper
     pub nothing-kept : i .kept ≡ Kept.None
+    pub written : i .written ≡ bytes l
+
+-- with the displacement bytes between ModRM and immediate; and behind the ModRM, where they are not yet counted
+module _ (reading : Reading) (c : Account) where
+  abbrev pub ReadBy : Tail → List ℕ → Type 0
+  ReadBy = ReadWith reading c (λ l. length (between (c .extra) l))
+
+  abbrev pub ReadBehind : Tail → List ℕ → Type 0
+  ReadBehind = ReadWith reading c (λ l. 0)
 
   abbrev pub Walk : List ℕ → Reader Tail → Type 0
   Walk = Along (Waits c) (RefusedBy c) ReadBy
+
+  abbrev pub WalkBehind : List ℕ → Reader Tail → Type 0
+  WalkBehind = Along (Waits c) (RefusedBy c) ReadBehind
 
 -- a ModRM and its displacement, under any claims that hold where fewer bytes are read than they have
 abbrev pub Modrm : Reading → OperandSize → Operand → ℕ → List ℕ → Type 0
@@ -147,28 +161,28 @@ module _ (reading : Reading) (W : List ℕ → Type 0) (P : Refusal → List ℕ
         λ low. (
           asks (opcode ∷ b ∷ low ∷ []) refl (rw e (omega arith)),
           λ high.
-              (λ x. record { is = λ size. rw e refl; behind = refl }, rw e refl),
+              (λ x. record { is = λ size. rw e refl; behind = refl; count = rw e refl }, rw e refl),
         ),
       )
-      go false e = (λ x. record { is = λ size. rw (e, segment-by reading field) refl; behind = refl }, rw e refl)
+      go false e = (λ x. record { is = λ size. rw (e, segment-by reading field) refl; behind = refl; count = rw e refl }, rw e refl)
   rm-along opcode b (suc zero) field asks =
-      (asks (opcode ∷ b ∷ []) refl (omega arith), λ d. (λ x. record { is = λ size. rw (segment-by reading field) refl; behind = refl }, refl))
+      (asks (opcode ∷ b ∷ []) refl (omega arith), λ d. (λ x. record { is = λ size. rw (segment-by reading field) refl; behind = refl; count = refl }, refl))
   rm-along opcode b (suc (suc zero)) field asks = (
     asks (opcode ∷ b ∷ []) refl (omega arith),
     λ low.
-        (asks (opcode ∷ b ∷ low ∷ []) refl (omega arith), λ high. (λ x. record { is = λ size. rw (segment-by reading field) refl; behind = refl }, refl)),
+        (asks (opcode ∷ b ∷ low ∷ []) refl (omega arith), λ high. (λ x. record { is = λ size. rw (segment-by reading field) refl; behind = refl; count = refl }, refl)),
   )
-  rm-along opcode b (suc (suc (suc n))) field asks = (λ x. record { is = λ size. refl; behind = refl }, refl)
+  rm-along opcode b (suc (suc (suc n))) field asks = (λ x. record { is = λ size. refl; behind = refl; count = refl }, refl)
 
   pub modrm-along : (opcode : ℕ) (size : OperandSize) → ((l : List ℕ) → length l < 2 + displacementBytes (byteAt l 1) → W l)
-      → Along W P (λ m. Modrm reading size (rm reading m size) (m .byte)) (opcode ∷ []) aModRM
+      → Along W P (λ m l. Modrm reading size (rm reading m size) (m .byte) l × (writtenIn m ≡ displacementBytes (m .byte))) (opcode ∷ []) aModRM
   unfolding aByte displacementBytes
   modrm-along opcode size asks = (
     asks (opcode ∷ []) (omega arith),
     λ b.
         along-bind W P _ _ (opcode ∷ b ∷ []) (registerOrMemory (b / 64) (b % 8)) (λ x. done (modRM b x))
         (rm-along opcode b (b / 64) (b % 8) (λ l e h. asks l (rw e h)))
-        (λ r l h. (λ x. record { by-rm = rw (h .0 x .behind) (h .0 x .is size); second = h .0 x .behind }, h .1)),
+        (λ r l h. ((λ x. record { by-rm = rw (h .0 x .behind) (h .0 x .is size); second = h .0 x .behind }, h .1), h .0 [] .count)),
   )
 
   -- an immediate and a displacement, read after l: the operand is in the last bytes, and what holds of l followed by anything still holds

@@ -1,14 +1,14 @@
--- What each row of the table comes to: the operands, the operation, the length, the distance and the refusals of its account.
+-- What each row of the table comes to: the operands, the operation, the length, the distance, the displacement bytes and the refusals of its account.
 -- Assumes nothing.
 use borrow.Author.Tests.{ne-eqb}
 use mathlib.Core.Path.{_≡_, refl, ap, ap₂, sym, _∙_}
 use mathlib.Core.Bool.{Bool, false, cond}
 use mathlib.Core.List.{List, [], _∷_, _++_, map}
 use mathlib.Core.Option.{none, some}
-use Prim.Native.Nat.{ℕ, zero, suc, _+_, _<_}
+use Prim.Native.Nat.{ℕ, zero, suc, _+_, _-_, _<_}
 use native.Mathlib.Omega.{arith}
 use lib.Dec.{eqb, ltb}
-use lib.ListN.{length, getD, length-append}
+use lib.ListN.{length, getD, drop, length-append, length-take, length-drop}
 use Rattle.mrc_instruction.specs.declared.errors.Refusal.{Refusal}
 use Rattle.mrc_instruction.specs.declared.reading.Reading.{Reading}
 use Rattle.mrc_instruction.specs.declared.reading.Reading.the-variants.{One, Two}
@@ -24,18 +24,19 @@ use Rattle.mrc_instruction.specs.declared.operation.Operation.{Operation}
 use Rattle.mrc_instruction.specs.declared.operation.Operation.the-variants.{ADD, OR, ADC, SBB, AND, SUB, XOR, CMP, ROL, ROR, RCL, RCR, SHL, SHR, SAR, NOT, NEG, MUL, IMUL, DIV, IDIV, INC, DEC, CALL, JMP, PUSH, MOV, POP, ESC}
 use Rattle.mrc_instruction.specs.Errors.{numberOf, byteOf}
 use Rattle.mrc_instruction.specs.Reader.{Reader, done, refuse, _>>=_, aByte, aWord}
-use Rattle.mrc_instruction.specs.Mrrm.{aModRM, regField}
-use Rattle.mrc_instruction.specs.Instruction.{plain, reached}
+use Rattle.mrc_instruction.specs.Mrrm.{aModRM, regField, writtenIn}
+use Rattle.mrc_instruction.specs.Instruction.{plain, reached, wrote}
 use Rattle.mrc_rules.specs.Forms.{Tail, Row, _⦂_, rest, withModRM, one, two, register, acc, anImmediate, aDisplacement, rm, arithmetic, shift, groupFEOperation, groupF6By, bare, prefix, invalid, rmReg, regRm, immediateToAccumulator, onSegment, onRegister, onDisplacement, group80, group83, pop, rmSegment, segmentRm, exchange, far, accDirect, directAcc, registerAndImmediate, shiftByImmediate, shiftByOne, shiftByCl, onImmediate, groupC6, escape, inPort, outPort, inDx, outDx, groupF6, groupFE, escapeRm, reaching, groupFEReach, widened, countSize}
-use Rattle.mrc_rules.specs.Operands.{RM, REG, SEGREG, IMMED, REL, WIDENED, THE, ONE, Places, only, _⟵_, test, byteAt, lastByte, operandAt, operandsAt}
+use Rattle.mrc_rules.specs.Operands.{RM, REG, SEGREG, IMMED, REL, WIDENED, THE, ONE, Places, only, _⟵_, test, byteAt, regAt, lastByte, operandAt, operandsAt}
 use Rattle.mrc_rules.specs.Operations.{Mnemonic, the, byReg, nameAt}
 use Rattle.mrc_rules.specs.Operations as op
 use Rattle.mrc_rules.specs.Reaches.{Distance, always, neither, reachAt}
-use Rattle.mrc_rules.specs.Lengths.{displacementBytes, fixed, modRM, tested, lengthBy}
+use Rattle.mrc_rules.specs.Lengths.{Extra, displacementBytes, fixed, modRM, tested, lengthBy}
+use Rattle.mrc_rules.specs.Written.{before, between}
 use Rattle.mrc_rules.specs.Refusals.{read, refused, noPlaces}
-use Rattle.mrc_rules.proofs.Along.{along-bind, along-cond, along-made}
+use Rattle.mrc_rules.proofs.Along.{along-bind, along-cond, along-kept, along-made}
 use Rattle.mrc_rules.proofs.Accounts.{Account, account, distant, inGroupFE, accountOf, Bar, free, popped, segment, grouped, verdictBy, bytesIn}
-use Rattle.mrc_rules.proofs.Places.{no-keeper, Followed, at-end, Says, field, by-reg, by-segment, Waits, RefusedBy, ReadBy, Walk, Modrm, modrm-along, byte-along, immediate-along, displacement-along}
+use Rattle.mrc_rules.proofs.Places.{no-keeper, Followed, followed-by, at-end, Says, field, by-reg, by-segment, Waits, RefusedBy, ReadBy, ReadBehind, Walk, WalkBehind, Modrm, modrm-along, byte-along, immediate-along, displacement-along}
 
 -- a group's operation is the one that reg names in it
 abbrev Named : Mnemonic → (ℕ → Operation) → Type 0
@@ -76,9 +77,9 @@ alone-whole reading size operand byte l s = behind-whole reading size operand by
 -- what is read where the last byte is: a ModRM with n bytes behind it, and with none
 module _ (reading : Reading) (q : Places) (there : noPlaces q ≡ false) (name : Mnemonic) (bar : Bar) (d : Distance) (size : OperandSize) (operand : Operand) (byte : ℕ)
     (i : Tail) (named : (l : List ℕ) → byteAt l 1 ≡ byte → nameAt l name ≡ some (i .operation)) (far : (l : List ℕ) → byteAt l 1 ≡ byte → reachAt l d ≡ i .reach)
-    (plainly : i .kept ≡ Kept.None) where
+    (plainly : i .kept ≡ Kept.None) (uncounted : i .written ≡ 0) where
   read-behind : (n : ℕ) (l : List ℕ) → Modrm reading size operand byte l → (y : List ℕ) → Followed (Says reading size operand byte) y → length y ≡ length l + n
-      → i .operands ≡ operandsAt reading y q → ((x : List ℕ) → verdictBy bar (y ++ x) ≡ read) → ReadBy reading (distant d (account q name (modRM n) bar)) i y
+      → i .operands ≡ operandsAt reading y q → ((x : List ℕ) → verdictBy bar (y ++ x) ≡ read) → ReadBehind reading (distant d (account q name (modRM n) bar)) i y
   read-behind n l s y k e h t =
       record {
         operands = h;
@@ -88,23 +89,59 @@ module _ (reading : Reading) (q : Places) (there : noPlaces q ≡ false) (name :
         told = t;
         keeper = no-keeper reading q y i there h;
         nothing-kept = plainly;
+        written = uncounted;
       }
 
   read-alone : (l : List ℕ) → Modrm reading size operand byte l → i .operands ≡ operandsAt reading l q → ((x : List ℕ) → verdictBy bar (l ++ x) ≡ read)
-      → ReadBy reading (distant d (account q name (modRM 0) bar)) i l
+      → ReadBehind reading (distant d (account q name (modRM 0) bar)) i l
   read-alone l s h t = read-behind 0 l s l (s .0) (omega arith) h t
+
+-- an account that has a ModRM; of a whole instruction the bytes between it and the immediate are those that mod and rm call for
+abbrev HasModRM : Extra → Type 0
+HasModRM (fixed n) = ⊥
+HasModRM (modRM n) = Unit {0}
+HasModRM (tested n) = Unit {0}
+
+before-counted : (n : ℕ) (l : List ℕ) → 2 + displacementBytes (byteAt l 1) + n ≡ length l → length (before n l) ≡ displacementBytes (byteAt l 1)
+before-counted n l e = omega (arith, length-take (length l - (2 + n)) (drop 2 l), length-drop 2 l)
+
+between-counted : (x : Extra) → HasModRM x → (l : List ℕ) → lengthBy x l ≡ length l → length (between x l) ≡ displacementBytes (byteAt l 1)
+between-counted (fixed n) there l e = absurd there
+between-counted (modRM n) there l e = before-counted n l e
+between-counted (tested n) there l e = before-counted (cond (eqb (regAt l) 0) n 0) l e
 
 -- nothing is asked
 unfoldable Nowhere : List ℕ → Type 0
 Nowhere l = Unit {0}
 
 module _ (reading : Reading) (opcode : ℕ) where
-  -- a ModRM, and what is done with it, under an account that has its bytes
-  after-modrm : (c : Account) (size : OperandSize) (f : Operand → ℕ → Reader Tail) → ((l : List ℕ) → length l < 2 + displacementBytes (byteAt l 1) → Waits c l)
-      → ((operand : Operand) (byte : ℕ) (l : List ℕ) → Modrm reading size operand byte l → Walk reading c l (f operand byte)) → Walk reading c (opcode ∷ []) (withModRM reading size f)
+  -- a ModRM, and what is done with it, under an account that has its bytes; its displacement bytes are then counted
+  after-modrm : (c : Account) → HasModRM (c .extra) → (size : OperandSize) (f : Operand → ℕ → Reader Tail)
+      → ((l : List ℕ) → length l < 2 + displacementBytes (byteAt l 1) → Waits c l)
+      → ((operand : Operand) (byte : ℕ) (l : List ℕ) → Modrm reading size operand byte l → WalkBehind reading c l (f operand byte))
+      → Walk reading c (opcode ∷ []) (withModRM reading size f)
   unfolding withModRM
-  after-modrm c size f asks h =
-      along-bind (Waits c) (RefusedBy c) _ _ (opcode ∷ []) aModRM _ (modrm-along reading (Waits c) (RefusedBy c) opcode size asks) (λ m. h (rm reading m size) (m .byte))
+  after-modrm c there size f asks h =
+      along-bind (Waits c) (RefusedBy c) _ _ (opcode ∷ []) aModRM _ (modrm-along reading (Waits c) (RefusedBy c) opcode size asks)
+      (λ m l s.
+      let K = Followed (Says reading size (rm reading m size) (m .byte)) in
+      along-made (λ i z. ReadBehind reading c i z × K z) (ReadBy reading c) (wrote (writtenIn m)) (λ z w. w) (λ e z r. r)
+      (λ i z r. record {
+        operands = r .0 .operands;
+        operation = r .0 .operation;
+        reach = r .0 .reach;
+        whole = r .0 .whole;
+        told = r .0 .told;
+        keeper = r .0 .keeper;
+        nothing-kept = r .0 .nothing-kept;
+        written =
+            s .1
+            ∙ ap displacementBytes (sym (at-end (Says reading size (rm reading m size) (m .byte)) z (r .1) .second))
+            ∙ sym (between-counted (c .extra) there z (at-end (λ y. lengthBy (c .extra) y ≡ length z) z (r .0 .whole)));
+      })
+      l (f (rm reading m size) (m .byte))
+      (along-kept (Waits c) (RefusedBy c) K (λ y b. followed-by (Says reading size (rm reading m size) (m .byte)) y (b ∷ [])) (ReadBehind reading c) l
+      (f (rm reading m size) (m .byte)) (s .0 .0) (h (rm reading m size) (m .byte) l (s .0))))
 
   -- an immediate behind the opcode, and a displacement
   after-immediate : (q : Places) → noPlaces q ≡ false → (o : Operation) (size : OperandSize) (f : Immediate → OperandSet)
@@ -123,6 +160,7 @@ module _ (reading : Reading) (opcode : ℕ) where
         told = λ x. refl;
         keeper = no-keeper reading q l (plain o (f i)) there (h i l (e .0));
         nothing-kept = refl;
+        written = refl;
       })
 
   after-displacement : (o : Operation) (size : OperandSize)
@@ -140,6 +178,7 @@ module _ (reading : Reading) (opcode : ℕ) where
         told = λ x. refl;
         keeper = refl;
         nothing-kept = refl;
+        written = refl;
       })
 
   -- a ModRM alone; and one whose reg a test may refuse
@@ -147,8 +186,8 @@ module _ (reading : Reading) (opcode : ℕ) where
       → ((operand : Operand) (byte : ℕ) (l : List ℕ) → Says reading size operand byte l → operands operand byte ≡ operandsAt reading l q)
       → Walk reading (account q name (modRM 0) free) (opcode ∷ []) (withModRM reading size (λ operand byte. done (plain (o byte) (operands operand byte))))
   modrm-alone q there name size o operands named e =
-      after-modrm (account q name (modRM 0) free) size _ (λ l k. omega arith)
-      (λ operand byte l s. read-alone reading q there name free neither size operand byte _ (named byte) (λ y e. refl) refl l s (e operand byte l (at-end (Says reading size operand byte) l (s .0))) (λ x. refl))
+      after-modrm (account q name (modRM 0) free) tt size _ (λ l k. omega arith)
+      (λ operand byte l s. read-alone reading q there name free neither size operand byte _ (named byte) (λ y e. refl) refl refl l s (e operand byte l (at-end (Says reading size operand byte) l (s .0))) (λ x. refl))
 
   modrm-tested : (q : Places) → noPlaces q ≡ false → (o : Operation) (bar : Bar) (size : OperandSize) (operands : Operand → ℕ → OperandSet) (passes : ℕ → Bool) (refusal : ℕ → Refusal)
       → ((operand : Operand) (byte : ℕ) (l : List ℕ) → Says reading size operand byte l → operands operand byte ≡ operandsAt reading l q)
@@ -157,9 +196,9 @@ module _ (reading : Reading) (opcode : ℕ) where
       (withModRM reading size (λ operand byte. cond (passes byte) (done (plain o (operands operand byte))) (refuse (refusal byte))))
   modrm-tested q there o bar size operands passes refusal e v =
       let c = account q (the o) (modRM 0) bar in
-      after-modrm c size _ (λ l k. omega arith)
+      after-modrm c tt size _ (λ l k. omega arith)
       (λ operand byte l s. along-cond (Waits c) (RefusedBy c) _ l (passes byte) _ _
-      (λ t. read-alone reading q there (the o) bar neither size operand byte _ (the-one o byte) (λ y e. refl) refl l s (e operand byte l (at-end (Says reading size operand byte) l (s .0)))
+      (λ t. read-alone reading q there (the o) bar neither size operand byte _ (the-one o byte) (λ y e. refl) refl refl l s (e operand byte l (at-end (Says reading size operand byte) l (s .0)))
       (λ x. v byte (l ++ x) (s .0 x .second) ∙ rw t refl))
       (λ t. record { whole = alone-whole reading size operand byte l s; told = λ x. v byte (l ++ x) (s .0 x .second) ∙ rw t refl }))
 
@@ -170,10 +209,10 @@ module _ (reading : Reading) (opcode : ℕ) where
   modrm-immediate size width name o named =
       let q = RM size ⟵ IMMED width in
       let c = account q name (modRM (bytesIn width)) free in
-      after-modrm c size _ (λ l k. omega arith)
+      after-modrm c tt size _ (λ l k. omega arith)
       (λ operand byte l s. along-bind (Waits c) (RefusedBy c) _ _ l (anImmediate width) _
       (immediate-along reading (Waits c) (RefusedBy c) (Says reading size operand byte) l (s .0) width (behind-waits reading size operand byte l s (bytesIn width)))
-      (λ i y e. read-behind reading q refl name free neither size operand byte _ (named byte) (λ y e. refl) refl (bytesIn width) l s y (e .1) (e .2)
+      (λ i y e. read-behind reading q refl name free neither size operand byte _ (named byte) (λ y e. refl) refl refl (bytesIn width) l s y (e .1) (e .2)
       (ap₂ OperandSet.DestinationAndSource (at-end (Says reading size operand byte) y (e .1) .by-rm) (e .0)) (λ x. refl)))
 
   -- the same with a byte that is widened
@@ -190,13 +229,13 @@ module _ (reading : Reading) (opcode : ℕ) where
   modrm-widened size name o named =
       let q = RM size ⟵ WIDENED reading in
       let c = account q name (modRM 1) free in
-      after-modrm c size _ (λ l k. omega arith)
+      after-modrm c tt size _ (λ l k. omega arith)
       (λ operand byte l s. along-bind (Waits c) (RefusedBy c) _ _ l aByte _
       (byte-along reading (Waits c) (RefusedBy c) (Says reading size operand byte) l (s .0) (λ b. Operand.Immediate (Immediate.Word (widened reading b)))
       (WIDENED reading)
       widened-byte
       (behind-waits reading size operand byte l s 1))
-      (λ b y e. read-behind reading q refl name free neither size operand byte _ (named byte) (λ y e. refl) refl 1 l s y (e .1) (e .2)
+      (λ b y e. read-behind reading q refl name free neither size operand byte _ (named byte) (λ y e. refl) refl refl 1 l s y (e .1) (e .2)
       (ap₂ OperandSet.DestinationAndSource (at-end (Says reading size operand byte) y (e .1) .by-rm) (e .0)) (λ x. refl)))
 
 -- reg is 0, 1 or more, at F6 and F7
@@ -204,7 +243,7 @@ module _ (reading : Reading) (size : OperandSize) where
   abbrev GroupF6 : Account
   GroupF6 = account (test (RM size) (IMMED size)) (byReg op.groupF6) (tested (bytesIn size)) grouped
 
-  group-f6-along : (operand : Operand) (byte : ℕ) (l : List ℕ) → Modrm reading size operand byte l → (n : ℕ) → regField byte ≡ n → Walk reading GroupF6 l (groupF6By n operand size)
+  group-f6-along : (operand : Operand) (byte : ℕ) (l : List ℕ) → Modrm reading size operand byte l → (n : ℕ) → regField byte ≡ n → WalkBehind reading GroupF6 l (groupF6By n operand size)
   group-f6-along operand byte l s zero e =
       along-bind (Waits GroupF6) (RefusedBy GroupF6) _ _ l (anImmediate size) _
       (immediate-along reading (Waits GroupF6) (RefusedBy GroupF6) (Says reading size operand byte) l (s .0) size
@@ -217,6 +256,7 @@ module _ (reading : Reading) (size : OperandSize) where
         told = λ x. rw (k .1 x .second, e) refl;
         keeper = refl;
         nothing-kept = refl;
+        written = refl;
       })
   group-f6-along operand byte l s (suc zero) e =
       record { whole = λ x. rw (s .0 x .second, e) (omega (arith, s .1)); told = λ x. rw (s .0 x .second, e) refl }
@@ -232,6 +272,7 @@ module _ (reading : Reading) (size : OperandSize) where
         told = λ x. rw (s .0 x .second, e, not-one) refl;
         keeper = refl;
         nothing-kept = refl;
+        written = refl;
       }
 
 -- FE and FF, whose reg says how far they go
@@ -242,9 +283,10 @@ fe-reach Word byte l second = rw second refl
 group-fe-along : (reading : Reading) (opcode : ℕ) (size : OperandSize)
     → Walk reading (accountOf reading (groupFE ⦂ size)) (opcode ∷ []) (rest reading opcode (groupFE ⦂ size))
 group-fe-along reading opcode size =
-    after-modrm reading opcode (accountOf reading (groupFE ⦂ size)) size _ (λ l k. omega arith)
+    after-modrm reading opcode (accountOf reading (groupFE ⦂ size)) tt size _ (λ l k. omega arith)
     (λ operand byte l s. read-alone reading (only (RM size)) refl (byReg op.groupFE) free (inGroupFE size) size operand byte _ (group-fe-named byte)
     (fe-reach size byte)
+    refl
     refl
     l
     s
@@ -263,11 +305,12 @@ reaching-along reading reach c =
       told = r .told;
       keeper = r .keeper;
       nothing-kept = r .nothing-kept;
+      written = r .written;
     })
 
 pub row-along : (reading : Reading) (opcode : ℕ) (row : Row) → Walk reading (accountOf reading row) (opcode ∷ []) (rest reading opcode row)
 unfolding aByte aWord
-row-along reading opcode (bare o) = record { operands = refl; operation = λ x. refl; reach = λ x. refl; whole = λ x. refl; told = λ x. refl; keeper = refl; nothing-kept = refl }
+row-along reading opcode (bare o) = record { operands = refl; operation = λ x. refl; reach = λ x. refl; whole = λ x. refl; told = λ x. refl; keeper = refl; nothing-kept = refl; written = refl }
 row-along reading opcode prefix = record { whole = λ x. refl; told = λ x. refl }
 row-along reading opcode invalid = record { whole = λ x. refl; told = λ x. refl }
 row-along reading opcode (rmReg o ⦂ size) =
@@ -292,16 +335,16 @@ row-along reading opcode (shiftByCl ⦂ size) =
     modrm-alone reading opcode (RM size ⟵ THE ClCx (countSize reading size)) refl (byReg op.shifts) size _ _ shift-named (λ operand byte l s. ap₂ OperandSet.DestinationAndSource (s .by-rm) refl)
 row-along reading opcode (groupC6 ⦂ size) = modrm-immediate reading opcode size size (the MOV) (λ byte. MOV) (the-one MOV)
 row-along reading opcode (groupF6 ⦂ size) =
-    after-modrm reading opcode (GroupF6 reading size) size _ (λ l k. omega arith) (λ operand byte l s. group-f6-along reading size operand byte l s (regField byte) refl)
+    after-modrm reading opcode (GroupF6 reading size) tt size _ (λ l k. omega arith) (λ operand byte l s. group-f6-along reading size operand byte l s (regField byte) refl)
 row-along reading opcode (groupFE ⦂ size) = group-fe-along reading opcode size
 row-along reading opcode (escapeRm ⦂ size) =
     modrm-alone reading opcode (only (RM size)) refl (the ESC) size _ _ (the-one ESC) (λ operand byte l s. ap OperandSet.Destination (s .by-rm))
 row-along reading opcode (immediateToAccumulator o size) =
     after-immediate reading opcode (accountOf reading (immediateToAccumulator o size) .places) refl o size _ (λ i l e. ap (OperandSet.DestinationAndSource (acc size)) e)
-row-along reading opcode (onSegment o s) = record { operands = refl; operation = λ x. refl; reach = λ x. refl; whole = λ x. refl; told = λ x. refl; keeper = refl; nothing-kept = refl }
-row-along reading opcode (onRegister o r) = record { operands = refl; operation = λ x. refl; reach = λ x. refl; whole = λ x. refl; told = λ x. refl; keeper = refl; nothing-kept = refl }
+row-along reading opcode (onSegment o s) = record { operands = refl; operation = λ x. refl; reach = λ x. refl; whole = λ x. refl; told = λ x. refl; keeper = refl; nothing-kept = refl; written = refl }
+row-along reading opcode (onRegister o r) = record { operands = refl; operation = λ x. refl; reach = λ x. refl; whole = λ x. refl; told = λ x. refl; keeper = refl; nothing-kept = refl; written = refl }
 row-along reading opcode (onDisplacement o size) = after-displacement reading opcode o size
-row-along reading opcode (exchange r) = record { operands = refl; operation = λ x. refl; reach = λ x. refl; whole = λ x. refl; told = λ x. refl; keeper = refl; nothing-kept = refl }
+row-along reading opcode (exchange r) = record { operands = refl; operation = λ x. refl; reach = λ x. refl; whole = λ x. refl; told = λ x. refl; keeper = refl; nothing-kept = refl; written = refl }
 row-along reading opcode (far o) = (
   omega arith,
   λ a. (
@@ -311,21 +354,21 @@ row-along reading opcode (far o) = (
       λ c. (
         omega arith,
         λ d.
-            record { operands = refl; operation = λ x. refl; reach = λ x. refl; whole = λ x. refl; told = λ x. refl; keeper = refl; nothing-kept = refl },
+            record { operands = refl; operation = λ x. refl; reach = λ x. refl; whole = λ x. refl; told = λ x. refl; keeper = refl; nothing-kept = refl; written = refl },
       ),
     ),
   ),
 )
 row-along reading opcode (accDirect size) =
-    (omega arith, λ low. (omega arith, λ high. record { operands = refl; operation = λ x. refl; reach = λ x. refl; whole = λ x. refl; told = λ x. refl; keeper = refl; nothing-kept = refl }))
+    (omega arith, λ low. (omega arith, λ high. record { operands = refl; operation = λ x. refl; reach = λ x. refl; whole = λ x. refl; told = λ x. refl; keeper = refl; nothing-kept = refl; written = refl }))
 row-along reading opcode (directAcc size) =
-    (omega arith, λ low. (omega arith, λ high. record { operands = refl; operation = λ x. refl; reach = λ x. refl; whole = λ x. refl; told = λ x. refl; keeper = refl; nothing-kept = refl }))
+    (omega arith, λ low. (omega arith, λ high. record { operands = refl; operation = λ x. refl; reach = λ x. refl; whole = λ x. refl; told = λ x. refl; keeper = refl; nothing-kept = refl; written = refl }))
 row-along reading opcode (registerAndImmediate r size) =
     after-immediate reading opcode (accountOf reading (registerAndImmediate r size) .places) refl MOV size _ (λ i l e. ap (OperandSet.DestinationAndSource (register r size)) e)
 row-along reading opcode (onImmediate o size) = after-immediate reading opcode (accountOf reading (onImmediate o size) .places) refl o size _ (λ i l e. ap OperandSet.Destination e)
-row-along reading opcode escape = (omega arith, λ b. record { operands = refl; operation = λ x. refl; reach = λ x. refl; whole = λ x. refl; told = λ x. refl; keeper = refl; nothing-kept = refl })
-row-along reading opcode (inPort size) = (omega arith, λ b. record { operands = refl; operation = λ x. refl; reach = λ x. refl; whole = λ x. refl; told = λ x. refl; keeper = refl; nothing-kept = refl })
-row-along reading opcode (outPort size) = (omega arith, λ b. record { operands = refl; operation = λ x. refl; reach = λ x. refl; whole = λ x. refl; told = λ x. refl; keeper = refl; nothing-kept = refl })
-row-along reading opcode (inDx size) = record { operands = refl; operation = λ x. refl; reach = λ x. refl; whole = λ x. refl; told = λ x. refl; keeper = refl; nothing-kept = refl }
-row-along reading opcode (outDx size) = record { operands = refl; operation = λ x. refl; reach = λ x. refl; whole = λ x. refl; told = λ x. refl; keeper = refl; nothing-kept = refl }
+row-along reading opcode escape = (omega arith, λ b. record { operands = refl; operation = λ x. refl; reach = λ x. refl; whole = λ x. refl; told = λ x. refl; keeper = refl; nothing-kept = refl; written = refl })
+row-along reading opcode (inPort size) = (omega arith, λ b. record { operands = refl; operation = λ x. refl; reach = λ x. refl; whole = λ x. refl; told = λ x. refl; keeper = refl; nothing-kept = refl; written = refl })
+row-along reading opcode (outPort size) = (omega arith, λ b. record { operands = refl; operation = λ x. refl; reach = λ x. refl; whole = λ x. refl; told = λ x. refl; keeper = refl; nothing-kept = refl; written = refl })
+row-along reading opcode (inDx size) = record { operands = refl; operation = λ x. refl; reach = λ x. refl; whole = λ x. refl; told = λ x. refl; keeper = refl; nothing-kept = refl; written = refl }
+row-along reading opcode (outDx size) = record { operands = refl; operation = λ x. refl; reach = λ x. refl; whole = λ x. refl; told = λ x. refl; keeper = refl; nothing-kept = refl; written = refl }
 row-along reading opcode (reaching reach row) = reaching-along reading reach (accountOf reading row) (opcode ∷ []) (rest reading opcode row) (row-along reading opcode row)

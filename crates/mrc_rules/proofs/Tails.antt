@@ -1,5 +1,5 @@
--- What the bytes behind the prefixes come to is what the second accounts say: operands, operation, distance, length, refusal, and whether an override is
--- kept.
+-- What the bytes behind the prefixes come to is what the second accounts say: operands, operation, distance, length, displacement bytes, refusal, and
+-- whether an override is kept.
 -- Assumes nothing.
 use mathlib.Core.Path.{_≡_, refl, ap, sym, subst, _∙_}
 use mathlib.Core.Logic.{_⊎_, inl, inr, ⊎-elim}
@@ -27,6 +27,7 @@ use Rattle.mrc_rules.specs.Operands.{nothing, places, byteAt, regAt, ope
 use Rattle.mrc_rules.specs.Operations.{nameAt, operationOf}
 use Rattle.mrc_rules.specs.Reaches.{reachAt, reachOf}
 use Rattle.mrc_rules.specs.Lengths.{Extra, lengthBy, wholeLength}
+use Rattle.mrc_rules.specs.Written.{between, writtenOf}
 use Rattle.mrc_rules.specs.Refusals.{Verdict, read, refused, byOpcode, verdictOf, takenOf, noPlaces, keepsAt}
 use Rattle.mrc_rules.proofs.Along.{Holds, along}
 use Rattle.mrc_rules.proofs.Accounts.{Account, accountOf, Bar, free, shut, popped, segment, grouped, verdictBy, row-places, row-name, row-distance, row-extra, row-keeper, row-verdict}
@@ -46,6 +47,7 @@ pub record Reads (x : Reading) (l : List ℕ) (i : Tail) (n : ℕ) : Type 0 wher
   pub nothing-kept : i .kept ≡ Kept.None
   pub operation : operationOf l ≡ some (i .operation)
   pub reach : reachOf l ≡ i .reach
+  pub written : i .written ≡ writtenOf x (take n l)
   pub whole : wholeLength x l ≡ n
   pub told : rowVerdict x l ≡ read
 
@@ -92,6 +94,7 @@ tail-comes x opcode l =
       operation =
           ap (nameAt (opcode ∷ l)) (sym (row-name x opcode)) ∙ ap (λ (y : List ℕ). nameAt y (c .name)) (sym (again n)) ∙ r .operation (drop n l);
       reach = ap (reachAt (opcode ∷ l)) (sym (row-distance x opcode)) ∙ ap (λ (y : List ℕ). reachAt y (c .distance)) (sym (again n)) ∙ r .reach (drop n l);
+      written = r .written ∙ ap (λ (y : Extra). length (between y (opcode ∷ take n l))) (row-extra x opcode);
       whole = whole-is n h (r .whole (drop n l));
       told = told-is read n (r .told (drop n l));
     }

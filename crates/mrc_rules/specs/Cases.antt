@@ -15,10 +15,8 @@ use Rattle.mrc_instruction.specs.declared.operand.OperandSize.{OperandSize}
 use Rattle.mrc_instruction.specs.declared.operand.Displacement.{Displacement}
 use Rattle.mrc_instruction.specs.declared.operand.Immediate.{Immediate}
 use Rattle.mrc_instruction.specs.declared.operand.Operand.{Operand}
-use Rattle.mrc_instruction.specs.declared.instruction.OperandSet.{OperandSet}
 use Rattle.mrc_instruction.specs.declared.instruction.Repeat.{Repeat}
 use Rattle.mrc_instruction.specs.declared.instruction.Repeated.{Repeated}
-use Rattle.mrc_instruction.specs.declared.instruction.Kept.{Kept}
 use Rattle.mrc_instruction.specs.declared.instruction.Reach.{Reach}
 use Rattle.mrc_instruction.specs.declared.instruction.Reach.the-variants.{Neither, Near, Far}
 use Rattle.mrc_instruction.specs.declared.instruction.Instruction.{Instruction}
@@ -27,7 +25,7 @@ use Rattle.mrc_instruction.specs.declared.operation.Operation.the-variants.{ADC
 use Rattle.mrc_instruction.specs.declared.errors.Refusal.the-variants.{EndOfInput, CouldNotReadExtraBytes, InvalidModRegRMEncoding, InvalidOpCode, InvalidSegmentEncoding, InvalidPrefix, TooManyPrefixes}
 use Rattle.mrc_rules.specs.declared.Answer.{Answer}
 use Rattle.mrc_rules.specs.declared.Answer.the-variants.{Decoded, Refused}
-use Rattle.mrc_instruction.specs.Instruction.{reached}
+use Rattle.mrc_instruction.specs.Instruction.{reached, repeatedBy, keepingIn, wrote}
 use Rattle.mrc_rules.specs.Forms.{none, one, two, register}
 use Rattle.mrc_rules.specs.Decode.{decodeAt}
 
@@ -56,32 +54,29 @@ cases =
     ∷ case 15 (0x83 ∷ 0xC0 ∷ 0xFF ∷ []) (Decoded (two ADD (register AlAx Word) (Operand.Immediate (Immediate.Word 0x00FF))) 3 0)  -- 4
     ∷ case 15 (0x26 ∷ 0xA4 ∷ []) (Refused (InvalidPrefix 0x26) 2 1)  -- 5
     ∷ case 15 (0x26 ∷ 0x2E ∷ 0x8B ∷ 0x07 ∷ []) (Decoded (two MOV (register AlAx Word) (Operand.Indirect ES Word Bx Displacement.None)) 4 2)  -- 6
-    ∷ case 15 (0x8B ∷ 0x47 ∷ 0x00 ∷ []) (Decoded (two MOV (register AlAx Word) (Operand.Indirect DS Word Bx Displacement.None)) 3 0)  -- 7
+    ∷ case 15 (0x8B ∷ 0x47 ∷ 0x00 ∷ []) (Decoded (wrote 1 (two MOV (register AlAx Word) (Operand.Indirect DS Word Bx Displacement.None))) 3 0)  -- 7
     ∷ case 15 (0xF6 ∷ 0xC8 ∷ []) (Refused (InvalidOpCode 0x01) 2 0)  -- 8
     ∷ case 15 (0x8F ∷ 0x48 ∷ []) (Refused CouldNotReadExtraBytes 2 0)  -- 9
     ∷ case 15 (0x8F ∷ 0x48 ∷ 0x00 ∷ []) (Refused (InvalidModRegRMEncoding 0x48) 3 0)  -- 9
     ∷ case 15 (0x8E ∷ 0xE0 ∷ []) (Refused (InvalidSegmentEncoding 0x04) 2 0)  -- 10
     ∷ case 15 (0x81 ∷ 0x80 ∷ 0x34 ∷ 0x12 ∷ 0x78 ∷ 0x56 ∷ [])
-    (Decoded (two ADD (Operand.Indirect DS Word BxSi (Displacement.Word (pos 0x1234))) (Operand.Immediate (Immediate.Word 0x5678))) 6 0)  -- 11
+    (Decoded (wrote 2 (two ADD (Operand.Indirect DS Word BxSi (Displacement.Word (pos 0x1234))) (Operand.Immediate (Immediate.Word 0x5678)))) 6 0)  -- 11
     ∷ case 15 (0x81 ∷ 0x80 ∷ 0x34 ∷ 0x12 ∷ 0x78 ∷ []) (Refused CouldNotReadExtraBytes 5 0)  -- 11
     ∷ case 15 (0xF2 ∷ 0xF3 ∷ 0xA4 ∷ [])
-    (Decoded (record { reach = Neither; repeat = Repeated.Some Repeat.NotEqual; operation = MOVSB; operands = OperandSet.None; kept = Kept.None }) 3 2)  -- 12
+    (Decoded (repeatedBy (Repeated.Some Repeat.NotEqual) (none MOVSB)) 3 2)  -- 12
     ∷ case 0 (0xF3 ∷ 0x90 ∷ []) (Refused (TooManyPrefixes 0xF3) 1 1)  -- 13
     ∷ []
 
--- MOV AX from memory
+-- MOV AX from memory; the same with so many displacement bytes written
 abbrev pub movAxFrom : Operand → ℕ → ℕ → Answer
 movAxFrom memory = Decoded (two MOV (register AlAx Word) memory)
 
+abbrev pub movAxBy : ℕ → Operand → ℕ → ℕ → Answer
+movAxBy written memory = Decoded (wrote written (two MOV (register AlAx Word) memory))
+
 -- REPE MOV AX, ES:[BX]
 abbrev pub repeatedMov : Instruction
-repeatedMov = record {
-  reach = Neither;
-  repeat = Repeated.Some Repeat.Equal;
-  operation = MOV;
-  operands = OperandSet.DestinationAndSource (register AlAx Word) (Operand.Indirect ES Word Bx Displacement.None);
-  kept = Kept.None;
-}
+repeatedMov = repeatedBy (Repeated.Some Repeat.Equal) (two MOV (register AlAx Word) (Operand.Indirect ES Word Bx Displacement.None))
 
 -- a call, a jump or a return on one operand; such an operand: memory through BX, a far address
 abbrev pub goes : Reach → Operation → Operand → ℕ → ℕ → Answer
@@ -95,13 +90,7 @@ farAddress = Operand.SegmentAndOffset (record { segment = 0x5678; offset = 0x123
 
 -- REPE CALL FAR [BX]
 abbrev pub repeatedCall : Instruction
-repeatedCall = record {
-  reach = Far;
-  repeat = Repeated.Some Repeat.Equal;
-  operation = CALL;
-  operands = OperandSet.Destination (atBx DS Word);
-  kept = Kept.None;
-}
+repeatedCall = repeatedBy (Repeated.Some Repeat.Equal) (reached Far (one CALL (atBx DS Word)))
 
 -- rule 16.2: inputs that a decoder may get wrong and still look right
 abbrev pub easilyMistaken : List Case
@@ -110,8 +99,8 @@ easilyMistaken =
     case 15 (0x83 ∷ 0xC8 ∷ 0x80 ∷ []) (Decoded (two OR (register AlAx Word) (Operand.Immediate (Immediate.Word 0x0080))) 3 0)
     -- the segment is DS where BP is the base, in each mod
     ∷ case 15 (0x8B ∷ 0x02 ∷ []) (movAxFrom (Operand.Indirect DS Word BpSi Displacement.None) 2 0)
-    ∷ case 15 (0x8B ∷ 0x46 ∷ 0x02 ∷ []) (movAxFrom (Operand.Indirect DS Word Bp (Displacement.Byte (pos 2))) 3 0)
-    ∷ case 15 (0x8B ∷ 0x86 ∷ 0x00 ∷ 0x80 ∷ []) (movAxFrom (Operand.Indirect DS Word Bp (Displacement.Word (negsuc 0x7FFF))) 4 0)
+    ∷ case 15 (0x8B ∷ 0x46 ∷ 0x02 ∷ []) (movAxBy 1 (Operand.Indirect DS Word Bp (Displacement.Byte (pos 2))) 3 0)
+    ∷ case 15 (0x8B ∷ 0x86 ∷ 0x00 ∷ 0x80 ∷ []) (movAxBy 2 (Operand.Indirect DS Word Bp (Displacement.Word (negsuc 0x7FFF))) 4 0)
     -- a jump keeps a displacement of 0; JE is 74 and JNE 75
     ∷ case 15 (0x74 ∷ 0x00 ∷ []) (Decoded (one JE (Operand.Displacement (Displacement.Byte (pos 0)))) 2 0)
     ∷ case 15 (0x75 ∷ 0x80 ∷ []) (Decoded (one JNE (Operand.Displacement (Displacement.Byte (negsuc 0x7F)))) 2 0)
@@ -173,6 +162,17 @@ easilyMistaken =
     -- how far it goes stays under an override and under a repeat
     ∷ case 15 (0x26 ∷ 0xFF ∷ 0x1F ∷ []) (goes Far CALL (atBx ES Word) 3 1)
     ∷ case 15 (0xF3 ∷ 0xFF ∷ 0x1F ∷ []) (Decoded repeatedCall 3 1)
+    -- one memory operand, written with none, one and two displacement bytes; Direct with two, but none without a ModRM
+    ∷ case 15 (0x8B ∷ 0x07 ∷ []) (movAxBy 0 (atBx DS Word) 2 0)
+    ∷ case 15 (0x8B ∷ 0x47 ∷ 0x00 ∷ []) (movAxBy 1 (atBx DS Word) 3 0)
+    ∷ case 15 (0x8B ∷ 0x87 ∷ 0x00 ∷ 0x00 ∷ []) (movAxBy 2 (atBx DS Word) 4 0)
+    ∷ case 15 (0x8B ∷ 0x06 ∷ 0x34 ∷ 0x12 ∷ []) (movAxBy 2 (Operand.Direct DS Word 0x1234) 4 0)
+    ∷ case 15 (0xA1 ∷ 0x34 ∷ 0x12 ∷ []) (movAxBy 0 (Operand.Direct DS Word 0x1234) 3 0)
+    ∷ case 15 (0x8B ∷ 0xC3 ∷ []) (movAxBy 0 (register BlBx Word) 2 0)
+    -- the immediate behind them is not counted; they stay under an override and under a repeat
+    ∷ case 15 (0xC7 ∷ 0x47 ∷ 0x00 ∷ 0x34 ∷ 0x12 ∷ []) (Decoded (wrote 1 (two MOV (atBx DS Word) (Operand.Immediate (Immediate.Word 0x1234)))) 5 0)
+    ∷ case 15 (0x26 ∷ 0x8B ∷ 0x47 ∷ 0x00 ∷ []) (movAxBy 1 (atBx ES Word) 4 1)
+    ∷ case 15 (0xF3 ∷ 0xFF ∷ 0x9F ∷ 0x00 ∷ 0x00 ∷ []) (Decoded (wrote 2 repeatedCall) 5 1)
     ∷ []
 
 -- an arithmetic operation on AX and a word
@@ -183,13 +183,13 @@ axAnd op word = Decoded (two op (register AlAx Word) (Operand.Immediate (Immedia
 abbrev pub wordIn : Segment → AddressingMode → Operand
 wordIn segment mode = Operand.Indirect segment Word mode Displacement.None
 
--- ESC of an operand; an operation that keeps an override
-abbrev pub escapes : Operand → ℕ → ℕ → Answer
-escapes operand = Decoded (one ESC operand)
+-- ESC of an operand, with so many displacement bytes written; an operation that keeps an override
+abbrev pub escapes : ℕ → Operand → ℕ → ℕ → Answer
+escapes written operand = Decoded (wrote written (one ESC operand))
 
 abbrev pub keepsIn : Segment → Repeated → Operation → ℕ → ℕ → Answer
 keepsIn segment repeat op =
-    Decoded (record { reach = Neither; repeat = repeat; operation = op; operands = OperandSet.None; kept = Kept.Some segment })
+    Decoded (repeatedBy repeat (keepingIn segment (none op)))
 
 -- rule 16.3: reading 2
 abbrev pub secondReading : List Case
@@ -212,16 +212,16 @@ secondReading =
     ∷ second (0x8B ∷ 0x03 ∷ []) (movAxFrom (wordIn SS BpDi) 2 0)
     ∷ second (0x8B ∷ 0x04 ∷ []) (movAxFrom (wordIn DS Si) 2 0)
     ∷ second (0x8B ∷ 0x05 ∷ []) (movAxFrom (wordIn DS Di) 2 0)
-    ∷ second (0x8B ∷ 0x06 ∷ 0x34 ∷ 0x12 ∷ []) (movAxFrom (Operand.Direct DS Word 0x1234) 4 0)
+    ∷ second (0x8B ∷ 0x06 ∷ 0x34 ∷ 0x12 ∷ []) (movAxBy 2 (Operand.Direct DS Word 0x1234) 4 0)
     ∷ second (0x8B ∷ 0x07 ∷ []) (movAxFrom (wordIn DS Bx) 2 0)
-    ∷ second (0x8B ∷ 0x46 ∷ 0x00 ∷ []) (movAxFrom (wordIn SS Bp) 3 0)
-    ∷ second (0x8B ∷ 0x86 ∷ 0x00 ∷ 0x80 ∷ []) (movAxFrom (Operand.Indirect SS Word Bp (Displacement.Word (negsuc 0x7FFF))) 4 0)
-    ∷ second (0x8D ∷ 0x46 ∷ 0x00 ∷ []) (Decoded (two LEA (register AlAx Word) (wordIn SS Bp)) 3 0)
-    ∷ second (0xC4 ∷ 0x46 ∷ 0x00 ∷ []) (Decoded (two LES (register AlAx Word) (wordIn SS Bp)) 3 0)
-    ∷ second (0xC5 ∷ 0x46 ∷ 0x00 ∷ []) (Decoded (two LDS (register AlAx Word) (wordIn SS Bp)) 3 0)
+    ∷ second (0x8B ∷ 0x46 ∷ 0x00 ∷ []) (movAxBy 1 (wordIn SS Bp) 3 0)
+    ∷ second (0x8B ∷ 0x86 ∷ 0x00 ∷ 0x80 ∷ []) (movAxBy 2 (Operand.Indirect SS Word Bp (Displacement.Word (negsuc 0x7FFF))) 4 0)
+    ∷ second (0x8D ∷ 0x46 ∷ 0x00 ∷ []) (Decoded (wrote 1 (two LEA (register AlAx Word) (wordIn SS Bp))) 3 0)
+    ∷ second (0xC4 ∷ 0x46 ∷ 0x00 ∷ []) (Decoded (wrote 1 (two LES (register AlAx Word) (wordIn SS Bp))) 3 0)
+    ∷ second (0xC5 ∷ 0x46 ∷ 0x00 ∷ []) (Decoded (wrote 1 (two LDS (register AlAx Word) (wordIn SS Bp))) 3 0)
     -- an override names another segment, DS too
-    ∷ second (0x26 ∷ 0x8B ∷ 0x46 ∷ 0x00 ∷ []) (movAxFrom (wordIn ES Bp) 4 1)
-    ∷ second (0x3E ∷ 0x8B ∷ 0x46 ∷ 0x00 ∷ []) (movAxFrom (wordIn DS Bp) 4 1)
+    ∷ second (0x26 ∷ 0x8B ∷ 0x46 ∷ 0x00 ∷ []) (movAxBy 1 (wordIn ES Bp) 4 1)
+    ∷ second (0x3E ∷ 0x8B ∷ 0x46 ∷ 0x00 ∷ []) (movAxBy 1 (wordIn DS Bp) 4 1)
     -- D2 and D3 count in CL, D0 and D1 as in reading 1
     ∷ second (0xD2 ∷ 0xE0 ∷ []) (Decoded (two SHL (register AlAx Byte) (register ClCx Byte)) 2 0)
     ∷ second (0xD3 ∷ 0xE0 ∷ []) (Decoded (two SHL (register AlAx Word) (register ClCx Byte)) 2 0)
@@ -230,11 +230,11 @@ secondReading =
     ∷ second (0xC2 ∷ 0x04 ∷ 0x00 ∷ []) (goes Near RET (Operand.Immediate (Immediate.Word 4)) 3 0)
     ∷ second (0xCA ∷ 0x04 ∷ 0x00 ∷ []) (goes Far RET (Operand.Immediate (Immediate.Word 4)) 3 0)
     -- ESC has the operand of its ModRM, and so an override before it
-    ∷ second (0xD8 ∷ 0x06 ∷ 0x34 ∷ 0x12 ∷ []) (escapes (Operand.Direct DS Word 0x1234) 4 0)
-    ∷ second (0xDF ∷ 0x7E ∷ 0x02 ∷ []) (escapes (Operand.Indirect SS Word Bp (Displacement.Byte (pos 2))) 3 0)
-    ∷ second (0xD9 ∷ 0xC3 ∷ []) (escapes (register BlBx Word) 2 0)
-    ∷ second (0x26 ∷ 0xD8 ∷ 0x07 ∷ []) (escapes (wordIn ES Bx) 3 1)
-    ∷ second (0x26 ∷ 0xD8 ∷ 0xC3 ∷ []) (escapes (register BlBx Word) 3 1)
+    ∷ second (0xD8 ∷ 0x06 ∷ 0x34 ∷ 0x12 ∷ []) (escapes 2 (Operand.Direct DS Word 0x1234) 4 0)
+    ∷ second (0xDF ∷ 0x7E ∷ 0x02 ∷ []) (escapes 1 (Operand.Indirect SS Word Bp (Displacement.Byte (pos 2))) 3 0)
+    ∷ second (0xD9 ∷ 0xC3 ∷ []) (escapes 0 (register BlBx Word) 2 0)
+    ∷ second (0x26 ∷ 0xD8 ∷ 0x07 ∷ []) (escapes 0 (wordIn ES Bx) 3 1)
+    ∷ second (0x26 ∷ 0xD8 ∷ 0xC3 ∷ []) (escapes 0 (register BlBx Word) 3 1)
     ∷ second (0xD8 ∷ 0x06 ∷ 0x34 ∷ []) (Refused CouldNotReadExtraBytes 3 0)
     -- the seven that keep an override, with a repeat and without
     ∷ second (0x26 ∷ 0xA4 ∷ []) (keepsIn ES Repeated.None MOVSB 2 1)

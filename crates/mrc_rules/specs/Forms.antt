@@ -24,8 +24,8 @@ use Rattle.mrc_instruction.specs.declared.operation.Operation.the-variants.{ADC
 use Rattle.mrc_instruction.specs.Register.{registerOf, segmentOf}
 use Rattle.mrc_instruction.specs.Signed.{signedByte, signedWord}
 use Rattle.mrc_instruction.specs.Reader.{Reader, done, refuse, _>>=_, aByte, aWord}
-use Rattle.mrc_instruction.specs.Mrrm.{ModRM, regField, aModRM, operandOf}
-use Rattle.mrc_instruction.specs.Instruction.{plain, reached}
+use Rattle.mrc_instruction.specs.Mrrm.{ModRM, regField, aModRM, memory, writtenIn, operandOf}
+use Rattle.mrc_instruction.specs.Instruction.{plain, reached, wrote}
 
 -- the forms with a ModRM
 pub data ModRMForm : Type 0 where
@@ -89,7 +89,7 @@ abbrev pub dx : Operand
 dx = register RegisterEncoding.DlDx Word
 
 abbrev pub rm : Reading → ModRM → OperandSize → Operand
-rm x m size = operandOf x size (m .mrrm .«register_or_memory»)
+rm x m size = operandOf x size (memory m)
 
 abbrev pub reg : ℕ → OperandSize → Operand
 reg byte size = register (registerOf (regField byte)) size
@@ -131,9 +131,12 @@ abbrev pub countSize : Reading → OperandSize → OperandSize
 countSize One size = size
 countSize Two size = Byte
 
--- a ModRM, and then what is read by the operand of a size that its mod and rm name and by its byte
+-- a ModRM, and then what is read by the operand of a size that its mod and rm name and by its byte; rule 4.6: with the displacement bytes written
 unfoldable pub withModRM : Reading → OperandSize → (Operand → ℕ → Reader Tail) → Reader Tail
-withModRM x size f = aModRM >>= λ m. f (rm x m size) (m .byte)
+withModRM x size f = do
+  m ← aModRM
+  i ← f (rm x m size) (m .byte)
+  done (wrote (writtenIn m) i)
 
 -- rule 5.2: what a form reads behind its ModRM
 abbrev pub behind : Reading → ModRMForm → OperandSize → Operand → ℕ → Reader Tail

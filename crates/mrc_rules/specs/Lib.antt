@@ -8,6 +8,7 @@ pub mod Operands
 pub mod Operations
 pub mod Reaches
 pub mod Lengths
+pub mod Written
 pub mod Refusals
 pub mod Kept
 pub mod Cases

@@ -12,12 +12,12 @@ use Rattle.mrc_instruction.specs.declared.operand.Operand.{Operand}
 use Rattle.mrc_instruction.specs.declared.instruction.OperandSet.{OperandSet}
 use Rattle.mrc_instruction.specs.declared.instruction.Repeat.{Repeat}
 use Rattle.mrc_instruction.specs.declared.instruction.Repeated.{Repeated}
-use Rattle.mrc_instruction.specs.declared.instruction.Kept.{Kept}
 use Rattle.mrc_instruction.specs.declared.instruction.Instruction.{Instruction}
 use Rattle.mrc_instruction.specs.declared.operation.Operation.{Operation}
 use Rattle.mrc_instruction.specs.declared.operation.Operation.the-variants.{MOVSB, MOVSW, CMPSB, CMPSW, LODSB, LODSW, XLATB}
 use Rattle.mrc_instruction.specs.Operation.{operationNumber}
 use Rattle.mrc_instruction.specs.Register.{segmentOf}
+use Rattle.mrc_instruction.specs.Instruction.{repeatedBy, onOperands, keepingIn}
 use Rattle.mrc_rules.specs.Forms.{Tail}
 
 -- rule 7.1: the segment overrides
@@ -69,11 +69,11 @@ pub data Result : Type 0 where
 
 -- the tail's instruction with a repeat and operands
 abbrev pub made : Tail → Repeated → OperandSet → Instruction
-made i repeat operands = record { reach = i .reach; repeat = repeat; operation = i .operation; operands = operands; kept = i .kept }
+made i repeat operands = repeatedBy repeat (onOperands operands i)
 
 -- the same with a repeat and an override that it keeps
 abbrev pub keeping : Tail → Repeated → Segment → Instruction
-keeping i repeat s = record { reach = i .reach; repeat = repeat; operation = i .operation; operands = i .operands; kept = Kept.Some s }
+keeping i repeat s = repeatedBy repeat (keepingIn s i)
 
 -- rule 7.11: the operations that read memory which no operand names
 abbrev pub keepers : List Operation

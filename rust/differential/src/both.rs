@@ -40,13 +40,15 @@ const NO_MODRM: ours::Modrm = ours::Modrm {
     byte: UNTOUCHED,
     taken: UNTOUCHED_WORD,
     register: UNTOUCHED,
-    reserved: [UNTOUCHED; 3],
+    written: UNTOUCHED,
+    reserved: [UNTOUCHED; 2],
     operand: NO_OPERAND,
 };
 /// More room than any line has.
 pub const MUCH_ROOM: usize = 128;
 
-/// A decode's record but for near and far and what is kept, these by themselves, and the counts of the same decode.
+/// A decode's record but for near and far, what is kept and the displacement bytes, these by themselves, and the counts of the same
+/// decode.
 pub fn decode(tally: &mut Tally, reading: u8, bytes: &[u8], at: usize, budget: u8) {
     let rust = reading::decode(reading, bytes, at, budget);
     let question = |call| Question::new(call, reading, bytes, at, Limit::Budget(budget));
@@ -56,9 +58,9 @@ pub fn decode(tally: &mut Tally, reading: u8, bytes: &[u8], at: usize, budget: u
     let read = record::of_the_rust(out.bytes());
     tally.note(&record::of_the_rust(told), &read, || question("decode"));
     tally.note(
-        &told[record::REACH..=record::KEPT],
-        &[out.reach, out.kept],
-        || question("near or far, and kept"),
+        &told[record::REACH..=record::WRITTEN],
+        &[out.reach, out.kept, out.written],
+        || question("near or far, kept, and displacement bytes"),
     );
     let step = ours::step(bytes, at, budget, reading);
     let rust = record::step(&rust);

@@ -17,3 +17,4 @@ pub mod refusal;
 pub mod sample;
 pub mod sample_second;
 pub mod second;
+pub mod written;

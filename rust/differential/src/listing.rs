@@ -1,10 +1,12 @@
-//! The listing line, rendered plainly from a reading's answer; near and far, which the given Rust does not tell, from the bytes.
+//! The listing line, rendered plainly from a reading's answer; near and far, and in the second reading a displacement of 0, which
+//! the given Rust does not tell, from the bytes.
 
 use crate::compare::hex;
 use crate::oracle::{Answer, USUAL_BUDGET};
 use crate::reach;
-use crate::reading;
+use crate::reading::{self, MANUAL};
 use crate::refusal::Refusal;
+use crate::second;
 use mrc_instruction::{
     Displacement, Immediate, Instruction, Operand, OperandSet, OperandSize, Operation, Repeat,
 };
@@ -59,7 +61,11 @@ pub fn page(reading: u8, image: &[u8], at: usize, room: usize) -> Line {
 fn line_at(reading: u8, image: &[u8], at: usize) -> Line {
     let answer = reading::decode(reading, image, at, USUAL_BUDGET);
     let (taken, words) = match &answer.result {
-        Ok(instruction) => (answer.taken, answer_text(instruction, &answer, at)),
+        Ok(read) if reading == MANUAL => {
+            let read = second::as_written(*read, answer.written);
+            (answer.taken, answer_text(&read, &answer, at))
+        }
+        Ok(read) => (answer.taken, answer_text(read, &answer, at)),
         Err(_) => (1, format!("DB {:02X}", image[at])),
     };
     let shown = hex(&image[at..at + taken.min(BYTES_SHOWN)], " ");

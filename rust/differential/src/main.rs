@@ -20,7 +20,7 @@ fn main() -> ExitCode {
     };
     let start = Instant::now();
     println!("seed {seed}");
-    println!("the Rust does not tell near and far and keeps no override: records leave both out, near and far is held to the bytes by itself, and what is kept to 0 in reading 1");
+    println!("the Rust does not tell near and far nor displacement bytes and keeps no override: records leave the three out, the first two are held to the bytes by themselves, and what is kept to 0 in reading 1");
     let total = run(seed);
     println!(
         "{} compared, {} differ, in {} s",

@@ -6,6 +6,7 @@
 //! | 1 | the ModRM byte, or the refusal's byte |
 //! | 2, 3 | bytes taken |
 //! | 4 | the register |
+//! | 5 | the displacement bytes written, by what mod and rm name |
 //! | 8 | 1 Direct, 2 Indirect, 3 DisplacementByte, 4 DisplacementWord, 5 Register |
 //! | 9 | the register that mod and rm name |
 //! | 10 | the addressing mode |
@@ -50,22 +51,43 @@ fn found(byte: u8, taken: u8, mrrm: &ModRegRM) -> Record {
         RegisterOrMemory::DisplacementWord(mode, value) => (4, 0, mode as u8, value.to_le_bytes()),
         RegisterOrMemory::Register(register) => (5, register as u8, 0, [0, 0]),
     };
+    let written = written(&mrrm.register_or_memory);
     let mut record = [0; LENGTH];
-    record[1..5].copy_from_slice(&[byte, taken, 0, mrrm.register as u8]);
+    record[1..6].copy_from_slice(&[byte, taken, 0, mrrm.register as u8, written]);
     record[8..14].copy_from_slice(&[kind, register, mode, 0, low, high]);
     record
+}
+
+/// How many displacement bytes are written of what mod and rm name.
+pub fn written(named: &RegisterOrMemory) -> u8 {
+    match named {
+        RegisterOrMemory::Indirect(_) | RegisterOrMemory::Register(_) => 0,
+        RegisterOrMemory::DisplacementByte(..) => 1,
+        RegisterOrMemory::Direct(_) | RegisterOrMemory::DisplacementWord(..) => 2,
+    }
 }
 
 #[cfg(test)]
 mod tests {
     use super::read;
+    use crate::written;
 
     #[test]
     fn a_zero_displacement_is_kept() {
         assert_eq!(
             read(&[0x47, 0x00], 0),
-            [0, 0x47, 2, 0, 0, 0, 0, 0, 3, 0, 7, 0, 0, 0, 0, 0]
+            [0, 0x47, 2, 0, 0, 1, 0, 0, 3, 0, 7, 0, 0, 0, 0, 0]
         );
+    }
+
+    #[test]
+    fn the_bytes_written_are_those_behind_the_modrm() {
+        for byte in 0..=255 {
+            let record = read(&[byte, 0x34, 0x12], 0);
+            assert_eq!(record[5], written::behind(byte), "{byte:02X}");
+            assert_eq!(record[5] + 1, record[2], "{byte:02X}");
+        }
+        assert_eq!(read(&[0x87, 0x00], 0)[..6], [2, 0, 2, 0, 0, 0]);
     }
 
     #[test]

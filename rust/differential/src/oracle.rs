@@ -1,8 +1,11 @@
-//! The given Rust's decoder with what the rules add to it: a position, a prefix budget, the two counts, and near and far.
+//! The given Rust's decoder with what the rules add to it: a position, a prefix budget, the two counts, near and far, and the
+//! displacement bytes.
 
 use crate::counted::Counted;
 use crate::reach;
+use crate::reading::GIVEN;
 use crate::refusal::Refusal;
+use crate::written;
 use mrc_decoder::decode_instruction;
 use mrc_instruction::Instruction;
 
@@ -17,6 +20,8 @@ pub struct Answer {
     pub reach: u8,
     /// The code of `enum mrc_kept`: an override that is kept, of which the given Rust has none.
     pub kept: u8,
+    /// The displacement bytes behind the ModRM, found in the bytes.
+    pub written: u8,
 }
 
 pub fn decode(bytes: &[u8], at: usize, budget: u8) -> Answer {
@@ -33,13 +38,17 @@ fn decode_within(bytes: &[u8], budget: usize) -> Answer {
     }
     let mut counted = Counted::new(bytes);
     let result = decode_instruction(&mut counted).map_err(Refusal::from);
-    let reach = result.as_ref().map_or(reach::NEITHER, |_| reach::of(bytes));
+    let (reach, written) = match result {
+        Ok(_) => (reach::of(bytes), written::of(GIVEN, bytes)),
+        Err(_) => (reach::NEITHER, 0),
+    };
     Answer {
         result,
         taken: counted.taken,
         prefixes,
         reach,
         kept: 0,
+        written,
     }
 }
 
@@ -51,6 +60,7 @@ fn refused(refusal: Refusal, prefixes: usize) -> Answer {
         prefixes,
         reach: reach::NEITHER,
         kept: 0,
+        written: 0,
     }
 }
 

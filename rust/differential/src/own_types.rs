@@ -2,7 +2,7 @@
 
 use differential::compare::{Question, Tally};
 use differential::counted::Counted;
-use differential::second;
+use differential::{modrm, second};
 use mrc::TryFromEncoding as _;
 use mrc_decoder::TryFromEncoding as _;
 use std::fmt::{Debug, Display};
@@ -25,19 +25,28 @@ pub fn decode(tally: &mut Tally, bytes: &[u8]) {
     );
 }
 
-/// Decoding from an iterator in the second reading: the instruction with what it keeps, or the refusal's number and byte, and the
-/// bytes taken.
+/// Decoding from an iterator in the second reading: the instruction with what it keeps and its displacement bytes, or the refusal's
+/// number and byte, and the bytes taken.
 pub fn decode_second(tally: &mut Tally, bytes: &[u8]) {
     let told = second::decode(bytes, 0, mrc::LARGEST_BUDGET);
     let rust = match told.result {
-        Ok(i) => format!("{:?}", (i.operation, i.operands, i.repeat, told.kept)),
+        Ok(i) => format!(
+            "{:?}",
+            (i.operation, i.operands, i.repeat, told.kept, told.written)
+        ),
         Err(refusal) => format!("{:?}", (refusal.number, refusal.byte)),
     };
     let mut counted = Counted::new(bytes);
     let ours = match mrc::Reading::Two.decode_instruction(&mut counted) {
         Ok(i) => format!(
             "{:?}",
-            (i.operation, i.operands, i.repeat, kept_code(i.kept))
+            (
+                i.operation,
+                i.operands,
+                i.repeat,
+                kept_code(i.kept),
+                i.written
+            )
         ),
         Err(refusal) => format!("{:?}", (refusal.number(), refusal.byte())),
     };
@@ -54,19 +63,23 @@ fn kept_code(kept: Option<mrc::Segment>) -> u8 {
     kept.map_or(0, |segment| 1 + segment as u8)
 }
 
-/// The ModRM of a first byte and what follows it.
+/// The ModRM of a first byte and what follows it, with its displacement bytes.
 pub fn mrrm(tally: &mut Tally, bytes: &[u8]) {
     let mut counted = Counted::new(bytes);
     let byte = counted.next().expect("a ModRM byte");
     let read = mrc_decoder::ModRegRM::try_from_byte(byte, &mut counted);
+    let written = read
+        .as_ref()
+        .map_or(0, |mrrm| modrm::written(&mrrm.register_or_memory));
     let rust = text(read.map(|mrrm| (mrrm, byte)), counted.taken);
     let answer = mrc::read_mrrm(bytes, 0);
+    let ours = text(answer.result, answer.taken);
     note(
         tally,
         "read_mrrm",
         bytes,
-        rust,
-        text(answer.result, answer.taken),
+        format!("{rust}, {written} written"),
+        format!("{ours}, {} written", answer.written),
     );
 }
 

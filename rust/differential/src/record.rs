@@ -10,6 +10,7 @@
 //! | 9 | 0 no repeat, 1 Equal, 2 NotEqual |
 //! | 10 | 0 neither, 1 near, 2 far, which the given Rust does not tell |
 //! | 11 | 0, or 1 and the code of the segment that is kept, which the given Rust has not |
+//! | 12 | the displacement bytes written behind the ModRM, which the given Rust does not tell |
 //! | 13 | the number of operands |
 //! | 16 to 23 | the destination |
 //! | 24 to 31 | the source |
@@ -35,6 +36,7 @@ pub const OPERATION: usize = 8;
 pub const REPEAT: usize = 9;
 pub const REACH: usize = 10;
 pub const KEPT: usize = 11;
+pub const WRITTEN: usize = 12;
 pub const OPERANDS: usize = 13;
 pub const DESTINATION: usize = 16;
 pub const SOURCE: usize = 24;
@@ -61,16 +63,17 @@ pub fn of(answer: &Answer) -> Record {
             write_instruction(instruction, &mut record);
             record[REACH] = answer.reach;
             record[KEPT] = answer.kept;
+            record[WRITTEN] = answer.written;
         }
         Err(Refusal { number, byte }) => record[..2].copy_from_slice(&[*number, *byte]),
     }
     record
 }
 
-/// The record without near and far and what is kept, of which the given Rust has no answer.
+/// The record without near and far, what is kept and the displacement bytes, of which the given Rust has no answer.
 pub fn of_the_rust(record: Record) -> Record {
     let mut record = record;
-    record[REACH..=KEPT].fill(0);
+    record[REACH..=WRITTEN].fill(0);
     record
 }
 
@@ -85,9 +88,9 @@ pub fn step(answer: &Answer) -> u64 {
 }
 
 /// What `spaced` has in its columns: refusal, byte, taken, prefixes, what is reserved, operation, repeat, near or far, what is
-/// kept, what is reserved, the number of operands, what is reserved, destination, source, third operand.
+/// kept, displacement bytes written, the number of operands, what is reserved, destination, source, third operand.
 pub const HEADING: &str =
-    "no by tak. pre.      op re nf ke    n       destination      source           third";
+    "no by tak. pre.      op re nf ke wr n       destination      source           third";
 
 /// The record with a space between its fields.
 pub fn spaced(record: &[u8]) -> String {
@@ -218,6 +221,28 @@ mod tests {
             read(&[0x89, 0x07]),
             "00 00 0200 0000 0000 00 00 00 00 00 02 0000 0203070100000000 0500000100000000 0000000000000000"
         );
+    }
+
+    #[test]
+    fn a_displacement_of_zero_is_told_by_its_bytes() {
+        assert_eq!(
+            read(&[0x8B, 0x47, 0x00]),
+            "00 00 0300 0000 0000 00 00 00 00 01 02 0000 0500000100000000 0203070100000000 0000000000000000"
+        );
+        assert_eq!(
+            read(&[0x89, 0x87, 0x00, 0x00]),
+            "00 00 0400 0000 0000 00 00 00 00 02 02 0000 0203070100000000 0500000100000000 0000000000000000"
+        );
+    }
+
+    #[test]
+    fn what_the_rust_does_not_tell_is_left_out() {
+        let record = of(&decode(&[0xFF, 0x5F, 0x00], 0, 15));
+        assert_eq!(record[REACH..=WRITTEN], [2, 0, 1]);
+        let left = of_the_rust(record);
+        assert_eq!(left[REACH..=WRITTEN], [0; 3]);
+        assert_eq!(left[..REACH], record[..REACH]);
+        assert_eq!(left[OPERANDS..], record[OPERANDS..]);
     }
 
     #[test]

@@ -238,6 +238,7 @@ mod tests {
         assert_eq!(values(&[record::REPEAT], false), (0..=2).collect());
         assert_eq!(values(&[record::REACH], false), (0..=2).collect());
         assert_eq!(values(&[record::KEPT], false), (0..=4).collect());
+        assert_eq!(values(&[record::WRITTEN], false), (0..=2).collect());
         let kinds = (0..=12)
             .filter(|kind| *kind != record::DISPLACEMENT_NONE)
             .collect();
@@ -246,6 +247,23 @@ mod tests {
             values(&[0], true),
             HashSet::from([1, 2, 5, 6, 8, 9, 10, 11])
         );
+    }
+
+    #[test]
+    fn a_written_zero_of_each_width_is_there_in_each_reading() {
+        let found: HashSet<(u8, u8)> = all()
+            .iter()
+            .map(|case| (case.reading, record::of(&case.answer())))
+            .filter(|(_, record)| {
+                [record::DESTINATION, record::SOURCE]
+                    .iter()
+                    .any(|place| record[*place] == record::INDIRECT)
+            })
+            .map(|(reading, record)| (reading, record[record::WRITTEN]))
+            .collect();
+        let each = [reading::GIVEN, reading::MANUAL]
+            .map(|reading| [0, 1, 2].map(|written| (reading, written)));
+        assert_eq!(found, each.concat().into_iter().collect());
     }
 
     #[test]

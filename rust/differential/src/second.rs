@@ -2,6 +2,8 @@
 //! manual reads these.
 
 use crate::oracle::{self, prefixes, tail, Answer};
+use crate::reading::MANUAL;
+use crate::written;
 use mrc_instruction::{
     AddressingMode, Displacement, Immediate, Instruction, Operand, OperandSet, OperandSize,
     Operation, RegisterEncoding, Segment, SizedRegisterEncoding,
@@ -19,7 +21,12 @@ pub fn decode(bytes: &[u8], at: usize, budget: u8) -> Answer {
         [0xA4..=0xA7 | 0xAC | 0xAD | 0xD7, ..] => keeping(rest, budget),
         _ => oracle::decode(bytes, at, budget),
     };
+    let written = match answer.result {
+        Ok(_) => written::of(MANUAL, rest),
+        Err(_) => 0,
+    };
     Answer {
+        written,
         result: answer.result.map(|read| amended(rest, read)),
         ..answer
     }
@@ -80,7 +87,7 @@ fn segment_of(prefix: u8) -> Option<Segment> {
 fn amended(bytes: &[u8], read: Instruction) -> Instruction {
     let operands = operands_in_place(tail(bytes)[0], read.operands);
     let operands = match overrides(bytes).next() {
-        None => through_bp(operands),
+        None => each(operands, in_stack),
         Some(_) => operands,
     };
     Instruction { operands, ..read }
@@ -103,12 +110,32 @@ fn operands_in_place(opcode: u8, operands: OperandSet) -> OperandSet {
     }
 }
 
-fn through_bp(operands: OperandSet) -> OperandSet {
+/// The instruction with a displacement of 0 where its memory has none and as many displacement bytes were written: what a line prints.
+pub fn as_written(read: Instruction, written: u8) -> Instruction {
+    let zero = match written {
+        1 => Displacement::Byte(0),
+        2 => Displacement::Word(0),
+        _ => Displacement::None,
+    };
+    let with_zero = |operand| match operand {
+        Operand::Indirect(segment, mode, Displacement::None, size) => {
+            Operand::Indirect(segment, mode, zero, size)
+        }
+        operand => operand,
+    };
+    Instruction {
+        operands: each(read.operands, with_zero),
+        ..read
+    }
+}
+
+/// The operands, each amended.
+fn each(operands: OperandSet, amend: impl Fn(Operand) -> Operand) -> OperandSet {
     match operands {
         OperandSet::None => OperandSet::None,
-        OperandSet::Destination(destination) => OperandSet::Destination(in_stack(destination)),
+        OperandSet::Destination(destination) => OperandSet::Destination(amend(destination)),
         OperandSet::DestinationAndSource(destination, source) => {
-            OperandSet::DestinationAndSource(in_stack(destination), in_stack(source))
+            OperandSet::DestinationAndSource(amend(destination), amend(source))
         }
     }
 }
@@ -211,6 +238,44 @@ mod tests {
         assert_eq!(step(&[0xDF], 15), 0x2_0000_0001);
         assert_eq!(step(&[0x26, 0xDF], 15), 0x9_0001_0002);
         lists(&[0x26, 0xD9, 0x07], "DB 26", "ESC WORD ES:[BX]");
+    }
+
+    #[test]
+    fn a_displacement_of_zero_is_printed_as_it_was_written() {
+        lists(
+            &[0x8B, 0x47, 0x00],
+            "MOV AX, WORD DS:[BX]",
+            "MOV AX, WORD DS:[BX+00]",
+        );
+        lists(
+            &[0x26, 0x89, 0x82, 0x00, 0x00],
+            "MOV WORD ES:[BP+SI], AX",
+            "MOV WORD ES:[BP+SI+0000], AX",
+        );
+        lists(&[0xFF, 0x37], "PUSH WORD DS:[BX]", "PUSH WORD DS:[BX]");
+        lists(
+            &[0xFF, 0x77, 0x00],
+            "PUSH WORD DS:[BX]",
+            "PUSH WORD DS:[BX+00]",
+        );
+        lists(
+            &[0x8B, 0x06, 0x00, 0x00],
+            "MOV AX, WORD DS:[0000]",
+            "MOV AX, WORD DS:[0000]",
+        );
+        lists(&[0xEB, 0x00], "JMP 0002", "JMP 0002");
+    }
+
+    #[test]
+    fn displacement_bytes_of_the_second_reading() {
+        let written = |bytes: &[u8]| decode(bytes, 0, 15).written;
+        assert_eq!(written(&[0xD8, 0x47, 0x00]), 1);
+        assert_eq!(written(&[0x3E, 0xDF, 0x3E, 0x34, 0x12]), 2);
+        assert_eq!(written(&[0xD8, 0xC1]), 0);
+        assert_eq!(written(&[0x83, 0x47, 0x00, 0xFF]), 1);
+        assert_eq!(written(&[0x26, 0xA4]), 0);
+        assert_eq!(written(&[0xDF, 0x3E, 0x34]), 0);
+        assert_eq!(written(&[0x8F, 0x48, 0x00]), 0);
     }
 
     #[test]

@@ -46,7 +46,8 @@ pub struct Modrm {
     pub byte: u8,
     pub taken: u16,
     pub register: u8,
-    pub reserved: [u8; 3],
+    pub written: u8,
+    pub reserved: [u8; 2],
     pub operand: Operand,
 }
 

@@ -57,6 +57,10 @@ impl Display for Reach {
 /// assert_eq!(mrc::decode_at(&[0x90], 0, 15).result, Ok(nop));
 /// let far = Instruction::new(Operation::RET, OperandSet::None).reaching(mrc::Reach::Far);
 /// assert_eq!(mrc::decode_at(&[0xCB], 0, 15).result, Ok(far));
+/// let [none, byte, word] = [&[0xFF, 0x07][..], &[0xFF, 0x47, 0x00], &[0xFF, 0x87, 0x00, 0x00]]
+///     .map(|bytes| mrc::decode_at(bytes, 0, 15).result);
+/// assert_eq!((byte, word), (Ok(none?.writing(1)), Ok(none?.writing(2))));
+/// # mrc::Result::Ok(())
 /// ```
 #[derive(Clone, Copy, Debug, PartialEq, Eq, Hash)]
 #[non_exhaustive]
@@ -72,10 +76,13 @@ pub struct Instruction {
     /// The segment of an override before MOVS, CMPS, LODS or XLATB, which have no operand, in
     /// [`Reading::Two`](crate::Reading::Two). DS differs from none.
     pub kept: Option<Segment>,
+    /// The displacement bytes written behind its ModRM, which mrc_instruction does not tell: 0, 1 or 2. Direct by a ModRM has 2,
+    /// and [`Displacement::None`](crate::Displacement::None) with 1 or 2 is a displacement of 0 that was written.
+    pub written: u8,
 }
 
 impl Instruction {
-    /// The instruction with no repeat and no override kept, neither near nor far.
+    /// The instruction with no repeat, no override kept and no displacement bytes, neither near nor far.
     #[must_use]
     pub fn new(operation: Operation, operands: OperandSet) -> Self {
         Self {
@@ -84,10 +91,11 @@ impl Instruction {
             repeat: None,
             reach: Reach::Neither,
             kept: None,
+            written: 0,
         }
     }
 
-    /// The instruction with a repeat and no override kept, neither near nor far.
+    /// The instruction with a repeat, no override kept and no displacement bytes, neither near nor far.
     #[must_use]
     pub fn with_repeat(repeat: Repeat, operation: Operation, operands: OperandSet) -> Self {
         Self {
@@ -106,5 +114,11 @@ impl Instruction {
     #[must_use]
     pub fn keeping(self, kept: Option<Segment>) -> Self {
         Self { kept, ..self }
+    }
+
+    /// The same instruction, with the displacement bytes that it was written with.
+    #[must_use]
+    pub fn writing(self, written: u8) -> Self {
+        Self { written, ..self }
     }
 }

@@ -15,6 +15,18 @@ pub enum RegisterOrMemory {
     Register(RegisterEncoding),
 }
 
+impl RegisterOrMemory {
+    /// How many displacement bytes it is written with: 0, 1 or 2.
+    #[must_use]
+    pub fn written(self) -> u8 {
+        match self {
+            Self::Indirect(_) | Self::Register(_) => 0,
+            Self::DisplacementByte(..) => 1,
+            Self::Direct(_) | Self::DisplacementWord(..) => 2,
+        }
+    }
+}
+
 /// A ModRM with its displacement.
 #[derive(Clone, Copy, Debug, PartialEq, Eq, Hash)]
 #[non_exhaustive]
@@ -45,6 +57,8 @@ pub struct MrrmAnswer {
     pub result: Result<(ModRegRM, u8)>,
     /// The bytes taken from the position on, the displacement included.
     pub taken: usize,
+    /// The displacement bytes among them: 0, 1 or 2, and 0 of a refusal.
+    pub written: u8,
 }
 
 /// Reads the ModRM byte at a position, and the displacement that follows it.
@@ -53,7 +67,7 @@ pub struct MrrmAnswer {
 /// let answer = mrc::read_mrrm(&[0x47, 0xFE], 0);
 /// let (mrrm, byte) = answer.result?;
 /// assert_eq!(mrrm.register, mrc::RegisterEncoding::AlAx);
-/// assert_eq!((byte, answer.taken), (0x47, 2));
+/// assert_eq!((byte, answer.taken, answer.written), (0x47, 2, 1));
 /// # mrc::Result::Ok(())
 /// ```
 pub fn read_mrrm(bytes: &[u8], position: usize) -> MrrmAnswer {
@@ -62,6 +76,7 @@ pub fn read_mrrm(bytes: &[u8], position: usize) -> MrrmAnswer {
     MrrmAnswer {
         result: result_of(&record),
         taken: usize::from(record.taken),
+        written: record.written,
     }
 }
 

@@ -8,7 +8,8 @@ use crate::{
 /// A decode's answer as the proved library writes it, from which each field is read by itself: cheaper than the whole
 /// [`Answer`](crate::Answer) where not all of it is wanted.
 ///
-/// A refusal has no operation, no repeat and no operand, is neither near nor far, and keeps no override.
+/// A refusal has no operation, no repeat and no operand, is neither near nor far, keeps no override, and has no displacement
+/// bytes.
 #[derive(Clone, Copy, Debug, PartialEq, Eq, Hash)]
 #[must_use]
 pub struct Record(boundary::Record);
@@ -50,6 +51,7 @@ impl Record {
                 repeat: self.repeat(),
                 reach: self.reach(),
                 kept: self.kept(),
+                written: self.written(),
             }),
         }
     }
@@ -116,6 +118,20 @@ impl Record {
             0 => None,
             kept => Some(Segment::from_code(kept - 1)),
         }
+    }
+
+    /// The displacement bytes written behind the instruction's ModRM: 0, 1 or 2. They tell a displacement of 0 from none, which
+    /// are one operand.
+    ///
+    /// ```
+    /// let (none, byte) = (mrc::record_at(&[0x8B, 0x07], 0, 15), mrc::record_at(&[0x8B, 0x47, 0x00], 0, 15));
+    /// assert_eq!(none.source(), byte.source());
+    /// assert_eq!((none.written(), byte.written()), (0, 1));
+    /// ```
+    #[inline]
+    #[must_use]
+    pub fn written(&self) -> u8 {
+        self.0.written
     }
 
     /// How many operands the instruction has.

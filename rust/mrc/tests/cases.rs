@@ -77,7 +77,8 @@ fn case_6_keeps_the_first_override() {
 #[test]
 fn case_7_has_no_displacement() {
     let source = memory(Segment::DS, AddressingMode::Bx, Displacement::None);
-    reads(&[0x8B, 0x47, 0x00], two(Operation::MOV, AX, source), 3, 0);
+    let mov = two(Operation::MOV, AX, source).writing(1);
+    reads(&[0x8B, 0x47, 0x00], mov, 3, 0);
 }
 
 #[test]
@@ -100,7 +101,8 @@ fn case_11_takes_six_bytes() {
         Displacement::Word(0x1234),
     );
     let immediate = Operand::Immediate(Immediate::Word(0x5678));
-    reads(&bytes, two(Operation::ADD, place, immediate), 6, 0);
+    let add = two(Operation::ADD, place, immediate).writing(2);
+    reads(&bytes, add, 6, 0);
     let cut = DecodeError::CouldNotReadExtraBytes;
     refuses(&bytes[..5], BUDGET, cut, 5, 0);
 }
@@ -137,14 +139,20 @@ fn a_jump_back_carries_a_signed_byte() {
 fn destination_stands_before_source() {
     let place = memory(Segment::DS, AddressingMode::Bx, Displacement::Byte(-2));
     let cx = word_register(RegisterEncoding::ClCx);
-    reads(&[0x89, 0x4F, 0xFE], two(Operation::MOV, place, cx), 3, 0);
-    reads(&[0x8B, 0x4F, 0xFE], two(Operation::MOV, cx, place), 3, 0);
-    reads(&[0x01, 0x4F, 0xFE], two(Operation::ADD, place, cx), 3, 0);
-    reads(&[0x03, 0x4F, 0xFE], two(Operation::ADD, cx, place), 3, 0);
-    reads(&[0x85, 0x4F, 0xFE], two(Operation::TEST, place, cx), 3, 0);
-    reads(&[0x87, 0x4F, 0xFE], two(Operation::XCHG, place, cx), 3, 0);
-    reads(&[0x8D, 0x4F, 0xFE], two(Operation::LEA, cx, place), 3, 0);
-    reads(&[0xD3, 0x6F, 0xFE], two(Operation::SHR, place, cx), 3, 0);
+    for (opcode, operation, destination, source) in [
+        (0x89, Operation::MOV, place, cx),
+        (0x8B, Operation::MOV, cx, place),
+        (0x01, Operation::ADD, place, cx),
+        (0x03, Operation::ADD, cx, place),
+        (0x85, Operation::TEST, place, cx),
+        (0x87, Operation::XCHG, place, cx),
+        (0x8D, Operation::LEA, cx, place),
+    ] {
+        let instruction = two(operation, destination, source).writing(1);
+        reads(&[opcode, 0x4F, 0xFE], instruction, 3, 0);
+    }
+    let shr = two(Operation::SHR, place, cx).writing(1);
+    reads(&[0xD3, 0x6F, 0xFE], shr, 3, 0);
     reads(&[0x91], two(Operation::XCHG, AX, cx), 1, 0);
     let ds = Operand::from(Segment::DS);
     reads(&[0x8C, 0xD8], two(Operation::MOV, AX, ds), 2, 0);
@@ -160,9 +168,10 @@ fn destination_stands_before_source() {
 #[test]
 fn readings_that_look_right_are_not_given() {
     let by_bp = memory(Segment::DS, AddressingMode::Bp, Displacement::Byte(2));
-    reads(&[0x8B, 0x46, 0x02], two(Operation::MOV, AX, by_bp), 3, 0);
+    let mov = two(Operation::MOV, AX, by_bp).writing(1);
+    reads(&[0x8B, 0x46, 0x02], mov, 3, 0);
     let by_bx = memory(Segment::DS, AddressingMode::Bx, Displacement::None);
-    let mov = two(Operation::MOV, AX, by_bx);
+    let mov = two(Operation::MOV, AX, by_bx).writing(2);
     reads(&[0x8B, 0x87, 0x00, 0x00], mov, 4, 0);
     let nowhere = Operand::Displacement(Displacement::Byte(0));
     let jump = goes(Reach::Near, Operation::JMP, nowhere);

@@ -40,26 +40,32 @@ fn an_addressing_field() {
 
 #[test]
 fn modrm_by_its_mod() {
-    let reads = |bytes: &[u8], register_or_memory, taken| {
+    let reads = |bytes: &[u8], register_or_memory: RegisterOrMemory, written| {
         let mrrm = ModRegRM::new(RegisterEncoding::ClCx, register_or_memory);
         let answer = read_mrrm(bytes, 0);
         assert_eq!(answer.result, Ok((mrrm, bytes[0])));
-        assert_eq!(answer.taken, taken);
+        assert_eq!((answer.taken, answer.written), (bytes.len(), written));
+        assert_eq!(register_or_memory.written(), written);
     };
     let bx = AddressingMode::Bx;
-    reads(&[0x0E, 0x34, 0x12], RegisterOrMemory::Direct(0x1234), 3);
-    reads(&[0x0F], RegisterOrMemory::Indirect(bx), 1);
-    reads(&[0x4F, 0xFE], RegisterOrMemory::DisplacementByte(bx, -2), 2);
-    reads(&[0x4F, 0x00], RegisterOrMemory::DisplacementByte(bx, 0), 2);
+    reads(&[0x0E, 0x34, 0x12], RegisterOrMemory::Direct(0x1234), 2);
+    reads(&[0x0F], RegisterOrMemory::Indirect(bx), 0);
+    reads(&[0x4F, 0xFE], RegisterOrMemory::DisplacementByte(bx, -2), 1);
+    reads(&[0x4F, 0x00], RegisterOrMemory::DisplacementByte(bx, 0), 1);
     reads(
         &[0x8F, 0x00, 0x80],
         RegisterOrMemory::DisplacementWord(bx, -32_768),
-        3,
+        2,
+    );
+    reads(
+        &[0x8F, 0x00, 0x00],
+        RegisterOrMemory::DisplacementWord(bx, 0),
+        2,
     );
     reads(
         &[0xCF],
         RegisterOrMemory::Register(RegisterEncoding::BhDi),
-        1,
+        0,
     );
 }
 
@@ -68,6 +74,7 @@ fn modrm_cut_short_or_outside() {
     let refuses = |bytes: &[u8], position, refusal, taken| {
         let answer = read_mrrm(bytes, position);
         assert_eq!((answer.result, answer.taken), (Err(refusal), taken));
+        assert_eq!(answer.written, 0);
     };
     refuses(&[0x8F, 0x00], 0, DecodeError::CouldNotReadExtraBytes, 2);
     refuses(&[0x8F], 1, DecodeError::CouldNotReadExtraBytes, 0);

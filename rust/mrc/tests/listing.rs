@@ -78,6 +78,21 @@ fn what_is_far_says_so_behind_its_name() {
 }
 
 #[test]
+fn a_displacement_of_zero_is_not_printed() {
+    let image = [0x8B, 0x47, 0x00, 0x89, 0x87, 0x00, 0x00, 0xFF, 0x76, 0x00];
+    let listing: String = lines(&image)
+        .expect("a short image")
+        .map(|line| line.text)
+        .collect();
+    assert_eq!(
+        listing,
+        "0000  8B 47 00               MOV AX, WORD DS:[BX]\n\
+         0003  89 87 00 00            MOV WORD DS:[BX], AX\n\
+         0007  FF 76 00               PUSH WORD DS:[BP]\n"
+    );
+}
+
+#[test]
 fn a_line_call_leaves_the_bytes_behind_its_line() {
     let mut out = [0xA5; LONGEST_LINE];
     let written = line(&EXAMPLE, 4, &mut out).expect("a line within the image");

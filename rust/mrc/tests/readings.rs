@@ -133,7 +133,7 @@ fn esc_has_the_operand_of_its_whole_modrm() {
         OperandSize::Word,
     );
     let esc = Instruction::new(Operation::ESC, OperandSet::Destination(place));
-    assert_eq!(second(&[0xDB, 0x6E, 0xFE]), Ok(esc));
+    assert_eq!(second(&[0xDB, 0x6E, 0xFE]), Ok(esc.writing(1)));
     let ax = SizedRegisterEncoding(RegisterEncoding::AlAx, OperandSize::Word);
     let esc = Instruction::new(Operation::ESC, OperandSet::Destination(ax.into()));
     assert_eq!(second(&[0xDF, 0xE0]), Ok(esc));

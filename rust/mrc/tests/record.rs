@@ -133,7 +133,7 @@ fn a_refusal_has_its_byte_and_counts_and_nothing_else() {
     assert_eq!((record.taken(), record.prefixes()), (2, 2));
     assert_eq!((record.operation(), record.repeat()), (None, None));
     assert_eq!((record.reach(), record.kept()), (Reach::Neither, None));
-    assert_eq!(record.operands(), 0);
+    assert_eq!((record.written(), record.operands()), (0, 0));
     assert_eq!((record.destination(), record.source()), (None, None));
 }
 
@@ -147,6 +147,8 @@ fn a_record_and_an_answer_agree_on_every_first_two_bytes() {
             assert_eq!(record.refusal(), answer.result.err());
             let operation = answer.result.ok().map(|read| read.operation);
             assert_eq!(record.operation(), operation);
+            let written = answer.result.map_or(0, |read| read.written);
+            assert_eq!(record.written(), written);
             assert_eq!(
                 (record.taken(), record.prefixes()),
                 (answer.taken, answer.prefixes)

@@ -45,7 +45,8 @@ static void layout(void)
     expect("byte of a ModRM", offsetof(struct mrc_modrm, byte), 1);
     expect("taken by a ModRM", offsetof(struct mrc_modrm, taken), 2);
     expect("register of a ModRM", offsetof(struct mrc_modrm, register_code), 4);
-    expect("reserved in a ModRM", offsetof(struct mrc_modrm, reserved), 5);
+    expect("written behind a ModRM", offsetof(struct mrc_modrm, written), 5);
+    expect("reserved in a ModRM", offsetof(struct mrc_modrm, reserved), 6);
     expect("operand of a ModRM", offsetof(struct mrc_modrm, operand), 8);
     struct { uint8_t first; struct mrc_record record; struct mrc_modrm modrm; } aligned;
     expect("alignment of a record", (uintptr_t)&aligned.record % 8, 0);
@@ -66,7 +67,6 @@ static struct mrc_record read(const uint8_t *bytes, size_t length, uint8_t budge
     memset(&record, 0xA5, sizeof record);
     mrc_decode(bytes, length, 0, budget, reading, &record);
     expect("what is reserved", record.reserved, 0);
-    expect("written", record.written, 0);
     expect("what is reserved", record.reserved_2[0] + record.reserved_2[1], 0);
     same("third operand", record.operand[MRC_THIRD], absent);
     return record;
@@ -93,6 +93,7 @@ static void decode(void)
     expect("operation", record.operation, MRC_OP_MOV);
     expect("repeat", record.repeat, 0);
     expect("neither near nor far", record.reach, MRC_NEITHER);
+    expect("written", record.written, 1);
     expect("operands", record.operands, 2);
     same("destination", record.operand[MRC_DESTINATION], ax);
     same("source", record.operand[MRC_SOURCE], memory);
@@ -110,6 +111,7 @@ static void decode_one_and_none(void)
     struct mrc_record record = decoded(call, sizeof call, 15);
     expect("operation with one operand", record.operation, MRC_OP_CALL);
     expect("far", record.reach, MRC_FAR);
+    expect("nothing written of a far address", record.written, 0);
     expect("one operand", record.operands, 1);
     same("far address", record.operand[MRC_DESTINATION], far);
     same("no source", record.operand[MRC_SOURCE], absent);
@@ -140,7 +142,7 @@ static void refused_decode(void)
 static void mrrm(void)
 {
     const uint8_t bytes[] = {0x8F, 0x00, 0x80};
-    const struct mrc_modrm expected = {MRC_NOT_REFUSED, 0x8F, 3, MRC_CL_CX, {0}, {MRC_INDIRECT_WORD, 0, MRC_BX, 0, 0x8000, 0}};
+    const struct mrc_modrm expected = {MRC_NOT_REFUSED, 0x8F, 3, MRC_CL_CX, 2, {0}, {MRC_INDIRECT_WORD, 0, MRC_BX, 0, 0x8000, 0}};
     struct mrc_modrm record;
     memset(&record, 0xA5, sizeof record);
     mrc_mrrm(bytes, sizeof bytes, 0, &record);
@@ -148,6 +150,16 @@ static void mrrm(void)
     const struct mrc_modrm refused = {.refusal = MRC_COULD_NOT_READ_EXTRA_BYTES, .taken = 2};
     mrc_mrrm(bytes, 2, 0, &record);
     expect("refused ModRM", (uint64_t)memcmp(&record, &refused, sizeof refused), 0);
+    const uint8_t direct[] = {0x0E, 0x34, 0x12}, zero[] = {0x4F, 0x00}, none[] = {0x0F}, in_register[] = {0xCF};
+    mrc_mrrm(direct, sizeof direct, 0, &record);
+    expect("written of Direct by the reader", record.written, 2);
+    mrc_mrrm(zero, sizeof zero, 0, &record);
+    expect("written 0 of the reader", record.written, 1);
+    expect("kind of a written 0 of the reader", record.operand.kind, MRC_INDIRECT_BYTE);
+    mrc_mrrm(none, sizeof none, 0, &record);
+    expect("nothing written of the reader", record.written, 0);
+    mrc_mrrm(in_register, sizeof in_register, 0, &record);
+    expect("nothing written of a register", record.written, 0);
 }
 
 static void numbers(void)
@@ -267,6 +279,36 @@ static void kept(void)
     expect("nothing is kept", read(of_ds + 1, 1, 15, MRC_READING_2).kept, MRC_NOTHING_KEPT);
 }
 
+static void writes(const uint8_t *bytes, size_t length, enum mrc_kind kind, uint8_t written)
+{
+    for (uint8_t reading = MRC_READING_1; reading <= MRC_READING_2; reading++) {
+        struct mrc_record record = read(bytes, length, 15, reading);
+        expect("kind of a source in memory", record.operand[MRC_SOURCE].kind, kind);
+        expect("displacement bytes written", record.written, written);
+    }
+}
+
+/* A displacement of 0 is MRC_INDIRECT, as none is; the bytes written tell them apart, and so does a line of the second reading. */
+static void written(void)
+{
+    const uint8_t none[] = {0x8B, 0x07}, byte[] = {0x8B, 0x47, 0x00}, word[] = {0x8B, 0x87, 0x00, 0x00};
+    const uint8_t in_es[] = {0x26, 0x8B, 0x47, 0x00}, direct[] = {0x8B, 0x06, 0x34, 0x12}, no_modrm[] = {0xA1, 0x34, 0x12};
+    writes(none, sizeof none, MRC_INDIRECT, 0);
+    writes(byte, sizeof byte, MRC_INDIRECT, 1);
+    writes(word, sizeof word, MRC_INDIRECT, 2);
+    writes(in_es, sizeof in_es, MRC_INDIRECT, 1);
+    writes(direct, sizeof direct, MRC_DIRECT, 2);
+    writes(no_modrm, sizeof no_modrm, MRC_DIRECT, 0);
+    const uint8_t refused[] = {0x8F, 0x48, 0x00};
+    expect("nothing written of a refusal", read(refused, sizeof refused, 15, MRC_READING_2).written, 0);
+    lists(none, sizeof none, MRC_READING_2, "0000  8B 07                  MOV AX, WORD DS:[BX]\n");
+    lists(byte, sizeof byte, MRC_READING_1, "0000  8B 47 00               MOV AX, WORD DS:[BX]\n");
+    lists(byte, sizeof byte, MRC_READING_2, "0000  8B 47 00               MOV AX, WORD DS:[BX+00]\n");
+    lists(word, sizeof word, MRC_READING_1, "0000  8B 87 00 00            MOV AX, WORD DS:[BX]\n");
+    lists(word, sizeof word, MRC_READING_2, "0000  8B 87 00 00            MOV AX, WORD DS:[BX+0000]\n");
+    lists(in_es, sizeof in_es, MRC_READING_2, "0000  26 8B 47 00            MOV AX, WORD ES:[BX+00]\n");
+}
+
 /* 83 C0 FF extends its sign in the second reading, and D8 46 02 takes its displacement. */
 static void readings(void)
 {
@@ -297,6 +339,7 @@ int main(void)
     page();
     step();
     kept();
+    written();
     readings();
     nothing_lent();
     return failures != 0;

@@ -30,12 +30,18 @@ mul-result-4 c = search needs
 add-result-4 : tie.Need-add-result-4
 add-result-4 c = search needs
 
+mul-result-5 : tie.Need-mul-result-5
+mul-result-5 c = search needs
+
+add-result-5 : tie.Need-add-result-5
+add-result-5 c = search needs
+
 returns : tie.Need-returns
 returns c =
     held (omega arith)
-    (body-held _ (record { operation = search needs; repeat = search needs; reach = search needs; kept = search needs; written = omega arith; operands = search needs; reserved = omega arith }))
+    (body-held _ (record { operation = search needs; repeat = search needs; reach = search needs; kept = search needs; written = search needs; operands = search needs; reserved = omega arith }))
 
 pub body-word-spec : {M : Type 1} → statement M
 body-word-spec =
     tie.close
-    (tie.spec mul-result add-result mul-result-2 add-result-2 mul-result-3 add-result-3 mul-result-4 add-result-4 returns)
+    (tie.spec mul-result add-result mul-result-2 add-result-2 mul-result-3 add-result-3 mul-result-4 add-result-4 mul-result-5 add-result-5 returns)

@@ -1,11 +1,8 @@
--- The ModRM is read, and then, by the form, what its function reads behind it.
+-- The ModRM is read, and then what its form reads behind it; the answer gets the displacement bytes that it was written with.
 -- Assumes nothing.
 use mathlib.Core.Path.{sym, _∙_}
-use mathlib.Core.Bool.{true, false}
-use lib.Dec.{eqb}
-use lib.ListN.{drop}
 use Rattle.mrc_decoder.specs.Form.{modRMForm}
-use Rattle.mrc_decoder.proofs.ModRM.{then-behind, stops-before, pop-anywhere, sole-anywhere, segment-anywhere, immediate-alike}
+use Rattle.mrc_decoder.proofs.ModRM.{then-behind, stops-before}
 use borrow.Author.Needs.{needs}
 use Rattle.mrc_decoder.proofs.decode.with_modrm.Statement.{statement}
 use Rattle.mrc_decoder.proofs.decode.with_modrm.Tie as tie
@@ -16,119 +13,20 @@ read-operand-requires c κs = search needs
 enum-known-operand : tie.Need-enum-known-operand
 enum-known-operand c = search needs
 
-enum-told : tie.Need-enum-told
-enum-told c = search needs
+behind-modrm-requires : tie.Need-behind-modrm-requires
+behind-modrm-requires c κs = search needs
 
-pop-requires : tie.Need-pop-requires
-pop-requires c κs = search needs
+writing-requires : tie.Need-writing-requires
+writing-requires c κs = search needs
 
 returns : tie.Need-returns
-returns c = then-behind (c .before .before .before .before .before .before .before .before .args .reading) (modRMForm (c .before .before .before .before .before .before .before .before .args .form)) (c .before .before .before .before .before .before .before .before .args .size) (c .before .before .before .before .before .before .before .before .args .s .now) (c .before .before .before .before .before .before .before .before .args .at) (sym (c .before .before .before .before .operand .given .1) ∙ c .before .before .before .before .before .before .read-operand .ensures) (rw (c .before .enum-told .given .1) (c .pop .ensures ∙ pop-anywhere (c .before .before .before .before .before .before .before .before .args .reading) (c .before .before .before .before .before .before .before .before .args .size) (c .before .before .before .before .operand .given .0 .0) (c .before .before .before .before .operand .given .0 .1 .1 .0) (c .before .before .before .before .operand .given .0 .1 .0) (drop (c .before .before .before .before .operand .given .0 .1 .0) (c .before .before .before .before .before .before .before .before .args .s .now))))
-
-enum-known-form : tie.Need-enum-known-form
-enum-known-form c = search needs
-
-on-register-or-memory-requires : tie.Need-on-register-or-memory-requires
-on-register-or-memory-requires c κs = search needs
-
-returns-2 : tie.Need-returns-2
-returns-2 c = then-behind (c .before .before .before .before .before .before .before .before .before .args .reading) (modRMForm (c .before .before .before .before .before .before .before .before .before .args .form)) (c .before .before .before .before .before .before .before .before .before .args .size) (c .before .before .before .before .before .before .before .before .before .args .s .now) (c .before .before .before .before .before .before .before .before .before .args .at) (sym (c .before .before .before .before .before .operand .given .1) ∙ c .before .before .before .before .before .before .before .read-operand .ensures) (rw (c .before .before .form .given .1) (c .on-register-or-memory .ensures ∙ sole-anywhere (c .before .before .before .before .before .before .before .before .before .args .reading) (c .before .before .before .before .before .before .before .before .before .args .size) (c .before .before .before .before .before .operand .given .0 .0) (c .before .before .before .before .before .operand .given .0 .1 .1 .0) (c .before .before .before .before .before .operand .given .0 .1 .0) (drop (c .before .before .before .before .before .operand .given .0 .1 .0) (c .before .before .before .before .before .before .before .before .before .args .s .now)) (eqb (c .before .before .form .given .0 .0) 0xFE)))
-
-enum-told-2 : tie.Need-enum-told-2
-enum-told-2 c = search needs
-
-group-f6-requires : tie.Need-group-f6-requires
-group-f6-requires c κs = search needs
-
-returns-3 : tie.Need-returns-3
-returns-3 c = then-behind (c .before .before .before .before .before .before .before .before .args .reading) (modRMForm (c .before .before .before .before .before .before .before .before .args .form)) (c .before .before .before .before .before .before .before .before .args .size) (c .before .before .before .before .before .before .before .before .args .s .now) (c .before .before .before .before .before .before .before .before .args .at) (sym (c .before .before .before .before .operand .given .1) ∙ c .before .before .before .before .before .before .read-operand .ensures) (rw (c .before .enum-told2 .given .1) (c .group-f6 .ensures))
-
-enum-known-form-2 : tie.Need-enum-known-form-2
-enum-known-form-2 c = search needs
-
-register-or-memory-and-register-requires : tie.Need-register-or-memory-and-register-requires
-register-or-memory-and-register-requires c κs = search needs
-
-returns-4 : tie.Need-returns-4
-returns-4 c = then-behind (c .before .before .before .before .before .before .before .before .before .args .reading) (modRMForm (c .before .before .before .before .before .before .before .before .before .args .form)) (c .before .before .before .before .before .before .before .before .before .args .size) (c .before .before .before .before .before .before .before .before .before .args .s .now) (c .before .before .before .before .before .before .before .before .before .args .at) (sym (c .before .before .before .before .before .operand .given .1) ∙ c .before .before .before .before .before .before .before .read-operand .ensures) (rw (c .before .before .form2 .given .1) (c .register-or-memory-and-register .ensures))
-
-enum-known-form-3 : tie.Need-enum-known-form-3
-enum-known-form-3 c = search needs
-
-register-or-memory-and-register-requires-2 : tie.Need-register-or-memory-and-register-requires-2
-register-or-memory-and-register-requires-2 c κs = search needs
-
-returns-5 : tie.Need-returns-5
-returns-5 c = then-behind (c .before .before .before .before .before .before .before .before .before .args .reading) (modRMForm (c .before .before .before .before .before .before .before .before .before .args .form)) (c .before .before .before .before .before .before .before .before .before .args .size) (c .before .before .before .before .before .before .before .before .before .args .s .now) (c .before .before .before .before .before .before .before .before .before .args .at) (sym (c .before .before .before .before .before .operand .given .1) ∙ c .before .before .before .before .before .before .before .read-operand .ensures) (rw (c .before .before .form3 .given .1) (c .register-or-memory-and-register2 .ensures))
-
-enum-told-3 : tie.Need-enum-told-3
-enum-told-3 c = search needs
-
-register-or-memory-and-segment-requires : tie.Need-register-or-memory-and-segment-requires
-register-or-memory-and-segment-requires c κs = search needs
-
-returns-6 : tie.Need-returns-6
-returns-6 c = then-behind (c .before .before .before .before .before .before .before .before .args .reading) (modRMForm (c .before .before .before .before .before .before .before .before .args .form)) (c .before .before .before .before .before .before .before .before .args .size) (c .before .before .before .before .before .before .before .before .args .s .now) (c .before .before .before .before .before .before .before .before .args .at) (sym (c .before .before .before .before .operand .given .1) ∙ c .before .before .before .before .before .before .read-operand .ensures) (rw (c .before .enum-told3 .given .1) (c .register-or-memory-and-segment .ensures ∙ segment-anywhere (c .before .before .before .before .before .before .before .before .args .reading) (c .before .before .before .before .before .before .before .before .args .size) (c .before .before .before .before .operand .given .0 .0) (c .before .before .before .before .operand .given .0 .1 .1 .0) (c .before .before .before .before .operand .given .0 .1 .0) (drop (c .before .before .before .before .operand .given .0 .1 .0) (c .before .before .before .before .before .before .before .before .args .s .now)) false))
-
-enum-told-4 : tie.Need-enum-told-4
-enum-told-4 c = search needs
-
-register-or-memory-and-segment-requires-2 : tie.Need-register-or-memory-and-segment-requires-2
-register-or-memory-and-segment-requires-2 c κs = search needs
-
-returns-7 : tie.Need-returns-7
-returns-7 c = then-behind (c .before .before .before .before .before .before .before .before .args .reading) (modRMForm (c .before .before .before .before .before .before .before .before .args .form)) (c .before .before .before .before .before .before .before .before .args .size) (c .before .before .before .before .before .before .before .before .args .s .now) (c .before .before .before .before .before .before .before .before .args .at) (sym (c .before .before .before .before .operand .given .1) ∙ c .before .before .before .before .before .before .read-operand .ensures) (rw (c .before .enum-told4 .given .1) (c .register-or-memory-and-segment2 .ensures ∙ segment-anywhere (c .before .before .before .before .before .before .before .before .args .reading) (c .before .before .before .before .before .before .before .before .args .size) (c .before .before .before .before .operand .given .0 .0) (c .before .before .before .before .operand .given .0 .1 .1 .0) (c .before .before .before .before .operand .given .0 .1 .0) (drop (c .before .before .before .before .operand .given .0 .1 .0) (c .before .before .before .before .before .before .before .before .args .s .now)) true))
-
-enum-known-form-4 : tie.Need-enum-known-form-4
-enum-known-form-4 c = search needs
-
-immediate-to-register-or-memory-requires : tie.Need-immediate-to-register-or-memory-requires
-immediate-to-register-or-memory-requires c κs = search needs
-
-returns-8 : tie.Need-returns-8
-returns-8 c = then-behind (c .before .before .before .before .before .before .before .before .before .args .reading) (modRMForm (c .before .before .before .before .before .before .before .before .before .args .form)) (c .before .before .before .before .before .before .before .before .before .args .size) (c .before .before .before .before .before .before .before .before .before .args .s .now) (c .before .before .before .before .before .before .before .before .before .args .at) (sym (c .before .before .before .before .before .operand .given .1) ∙ c .before .before .before .before .before .before .before .read-operand .ensures) (rw (c .before .before .form4 .given .1) (c .immediate-to-register-or-memory .ensures ∙ immediate-alike (c .before .before .before .before .before .before .before .before .before .args .reading) (c .before .before .before .before .before .before .before .before .before .args .size) (c .before .before .before .before .before .operand .given .0 .0) (c .before .before .before .before .before .operand .given .0 .1 .1 .0) (c .before .before .before .before .before .operand .given .0 .1 .0) (drop (c .before .before .before .before .before .operand .given .0 .1 .0) (c .before .before .before .before .before .before .before .before .before .args .s .now)) (eqb (c .before .before .form4 .given .0 .0) 0x80)))
-
-enum-told-5 : tie.Need-enum-told-5
-enum-told-5 c = search needs
-
-group-83-requires : tie.Need-group-83-requires
-group-83-requires c κs = search needs
-
-returns-9 : tie.Need-returns-9
-returns-9 c = then-behind (c .before .before .before .before .before .before .before .before .args .reading) (modRMForm (c .before .before .before .before .before .before .before .before .args .form)) (c .before .before .before .before .before .before .before .before .args .size) (c .before .before .before .before .before .before .before .before .args .s .now) (c .before .before .before .before .before .before .before .before .args .at) (sym (c .before .before .before .before .operand .given .1) ∙ c .before .before .before .before .before .before .read-operand .ensures) (rw (c .before .enum-told5 .given .1) (c .group-83 .ensures))
-
-enum-told-6 : tie.Need-enum-told-6
-enum-told-6 c = search needs
-
-shift-by-immediate-requires : tie.Need-shift-by-immediate-requires
-shift-by-immediate-requires c κs = search needs
-
-returns-10 : tie.Need-returns-10
-returns-10 c = then-behind (c .before .before .before .before .before .before .before .before .args .reading) (modRMForm (c .before .before .before .before .before .before .before .before .args .form)) (c .before .before .before .before .before .before .before .before .args .size) (c .before .before .before .before .before .before .before .before .args .s .now) (c .before .before .before .before .before .before .before .before .args .at) (sym (c .before .before .before .before .operand .given .1) ∙ c .before .before .before .before .before .before .read-operand .ensures) (rw (c .before .enum-told6 .given .1) (c .shift-by-immediate .ensures (c .before .before .before .before .before .before .before .before .args .size)))
-
-enum-told-7 : tie.Need-enum-told-7
-enum-told-7 c = search needs
-
-shift-by-one-requires : tie.Need-shift-by-one-requires
-shift-by-one-requires c κs = search needs
-
-returns-11 : tie.Need-returns-11
-returns-11 c = then-behind (c .before .before .before .before .before .before .before .before .args .reading) (modRMForm (c .before .before .before .before .before .before .before .before .args .form)) (c .before .before .before .before .before .before .before .before .args .size) (c .before .before .before .before .before .before .before .before .args .s .now) (c .before .before .before .before .before .before .before .before .args .at) (sym (c .before .before .before .before .operand .given .1) ∙ c .before .before .before .before .before .before .read-operand .ensures) (rw (c .before .enum-told7 .given .1) (c .shift-by-one .ensures (c .before .before .before .before .before .before .before .before .args .size)))
-
-enum-told-8 : tie.Need-enum-told-8
-enum-told-8 c = search needs
-
-shift-by-cl-requires : tie.Need-shift-by-cl-requires
-shift-by-cl-requires c κs = search needs
-
-returns-12 : tie.Need-returns-12
-returns-12 c = then-behind (c .before .before .before .before .before .before .before .before .args .reading) (modRMForm (c .before .before .before .before .before .before .before .before .args .form)) (c .before .before .before .before .before .before .before .before .args .size) (c .before .before .before .before .before .before .before .before .args .s .now) (c .before .before .before .before .before .before .before .before .args .at) (sym (c .before .before .before .before .operand .given .1) ∙ c .before .before .before .before .before .before .read-operand .ensures) (rw (c .before .enum-told8 .given .1) (c .shift-by-cl .ensures))
+returns c = c .writing .ensures ∙ then-behind (c .before .before .before .before .before .before .before .args .reading) (modRMForm (c .before .before .before .before .before .before .before .args .form)) (c .before .before .before .before .before .before .before .args .size) (c .before .before .before .before .before .before .before .args .s .now) (c .before .before .before .before .before .before .before .args .at) (sym (c .before .before .before .operand .given .1) ∙ c .before .before .before .before .before .read-operand .ensures) (c .before .behind-modrm .ensures)
 
 enum-known-e : tie.Need-enum-known-e
 enum-known-e c = search needs
 
-returns-13 : tie.Need-returns-13
-returns-13 c = stops-before (c .before .before .before .before .before .args .reading) (modRMForm (c .before .before .before .before .before .args .form)) (c .before .before .before .before .before .args .size) (c .before .before .before .before .before .args .s .now) (c .before .before .before .before .before .args .at) (sym (c .before .e .given .1) ∙ c .before .before .before .read-operand .ensures)
+returns-2 : tie.Need-returns-2
+returns-2 c = stops-before (c .before .before .before .before .before .args .reading) (modRMForm (c .before .before .before .before .before .args .form)) (c .before .before .before .before .before .args .size) (c .before .before .before .before .before .args .s .now) (c .before .before .before .before .before .args .at) (sym (c .before .e .given .1) ∙ c .before .before .before .read-operand .ensures)
 
 pub with-modrm-spec : {M : Type 1} → statement M
 with-modrm-spec =
@@ -136,41 +34,8 @@ with-modrm-spec =
     (tie.spec
     read-operand-requires
     enum-known-operand
-    enum-told
-    pop-requires
+    behind-modrm-requires
+    writing-requires
     returns
-    enum-known-form
-    on-register-or-memory-requires
-    returns-2
-    enum-told-2
-    group-f6-requires
-    returns-3
-    enum-known-form-2
-    register-or-memory-and-register-requires
-    returns-4
-    enum-known-form-3
-    register-or-memory-and-register-requires-2
-    returns-5
-    enum-told-3
-    register-or-memory-and-segment-requires
-    returns-6
-    enum-told-4
-    register-or-memory-and-segment-requires-2
-    returns-7
-    enum-known-form-4
-    immediate-to-register-or-memory-requires
-    returns-8
-    enum-told-5
-    group-83-requires
-    returns-9
-    enum-told-6
-    shift-by-immediate-requires
-    returns-10
-    enum-told-7
-    shift-by-one-requires
-    returns-11
-    enum-told-8
-    shift-by-cl-requires
-    returns-12
     enum-known-e
-    returns-13)
+    returns-2)

@@ -12,8 +12,8 @@ put-opening-requires c κs = search needs
 put-mode-requires : tie.Need-put-mode-requires
 put-mode-requires c κs = search needs
 
-put-displacement-requires : tie.Need-put-displacement-requires
-put-displacement-requires c κs = search needs
+put-offset-requires : tie.Need-put-offset-requires
+put-offset-requires c κs = search needs
 
 put-byte-requires : tie.Need-put-byte-requires
 put-byte-requires c κs = search needs
@@ -22,7 +22,7 @@ same-length : tie.Need-same-length
 same-length c = search needs
 
 returns : tie.Need-returns
-returns c = same (simp append-assoc) (then (c .before .before .before .before .before .before .before .before .before .before .before .before .before .before .put-opening .ensures) (then (c .before .before .before .before .before .before .before .before .before .before .put-mode .ensures) (then (c .before .before .before .before .before .before .put-displacement .ensures) (c .before .before .put-byte .ensures))))
+returns c = same (simp append-assoc) (then (c .before .before .before .before .before .before .before .before .before .before .before .before .before .before .put-opening .ensures) (then (c .before .before .before .before .before .before .before .before .before .before .put-mode .ensures) (then (c .before .before .before .before .before .before .put-offset .ensures) (c .before .before .put-byte .ensures))))
 
 pub put-indirect-spec : {M : Type 1} → statement M
 put-indirect-spec =
@@ -30,7 +30,7 @@ put-indirect-spec =
     (tie.spec
     put-opening-requires
     put-mode-requires
-    put-displacement-requires
+    put-offset-requires
     put-byte-requires
     same-length
     returns)

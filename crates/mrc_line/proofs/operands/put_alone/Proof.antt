@@ -9,8 +9,8 @@ use borrow.Author.Needs.{needs}
 use Rattle.mrc_line.proofs.operands.put_alone.Statement.{statement}
 use Rattle.mrc_line.proofs.operands.put_alone.Tie as tie
 
-enum-known-destination : tie.Need-enum-known-destination
-enum-known-destination c = search needs
+enum-known-sole : tie.Need-enum-known-sole
+enum-known-sole c = search needs
 
 put-register-requires : tie.Need-put-register-requires
 put-register-requires c κs = search needs
@@ -24,7 +24,7 @@ same-length c = search needs
 returns : tie.Need-returns
 returns c =
     let a = c .before .before .before .before .before .before .before .before .args in
-    gives (omega arith) (sym (ap (operandText (alone (a .operation) (a .start) (a .taken))) (c .before .before .before .before .before .destination .given .1))) (c .before .before .put-register .ensures)
+    gives (omega arith) (sym (ap (operandText (a .reading) (a .written) (alone (a .operation) (a .start) (a .taken))) (c .before .before .before .before .before .sole .given .1))) (c .before .before .put-register .ensures)
 
 same-length-2 : tie.Need-same-length-2
 same-length-2 c = search needs
@@ -36,7 +36,7 @@ pub put-alone-spec : {M : Type 1} → statement M
 put-alone-spec =
     tie.close
     (tie.spec
-    enum-known-destination
+    enum-known-sole
     put-register-requires
     put-sole-requires
     same-length

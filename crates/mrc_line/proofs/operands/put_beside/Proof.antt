@@ -22,7 +22,7 @@ same-length : tie.Need-same-length
 same-length c = search needs
 
 returns : tie.Need-returns
-returns c = gives (omega arith) (sym (ap (operandText beside) (c .before .before .before .before .before .operand .given .1))) (c .before .before .put-register .ensures)
+returns c = gives (omega arith) (sym (ap (operandText (c .before .before .before .before .before .before .before .before .args .reading) (c .before .before .before .before .before .before .before .before .args .written) beside) (c .before .before .before .before .before .operand .given .1))) (c .before .before .put-register .ensures)
 
 same-length-2 : tie.Need-same-length-2
 same-length-2 c = search needs

@@ -39,20 +39,20 @@ put-beside-requires-2 : tie.Need-put-beside-requires-2
 put-beside-requires-2 c κs = search needs
 
 returns : tie.Need-returns
-returns c = gives (omega arith) (sym (ap (operandsText (c .before .before .before .args .operation) (c .before .before .before .args .start) (c .before .before .before .args .taken)) (c .enum-told .given .1))) (none (c .before .before .before .args .buf .now) (c .before .before .before .args .at))
+returns c = gives (omega arith) (sym (ap (operandsText (c .before .before .before .args .reading) (c .before .before .before .args .written) (c .before .before .before .args .operation) (c .before .before .before .args .start) (c .before .before .before .args .taken)) (c .enum-told .given .1))) (none (c .before .before .before .args .buf .now) (c .before .before .before .args .at))
 
 same-length : tie.Need-same-length
 same-length c = search needs
 
 returns-2 : tie.Need-returns-2
-returns-2 c = gives (omega arith) (sym (ap (operandsText (c .before .before .before .before .before .before .before .before .before .before .before .before .args .operation) (c .before .before .before .before .before .before .before .before .before .before .before .before .args .start) (c .before .before .before .before .before .before .before .before .before .before .before .before .args .taken)) (c .before .before .before .before .before .before .before .before .before .operands .given .1))) (then (c .before .before .before .before .before .before .put-byte .ensures) (c .before .before .put-alone .ensures))
+returns-2 c = gives (omega arith) (sym (ap (operandsText (c .before .before .before .before .before .before .before .before .before .before .before .before .args .reading) (c .before .before .before .before .before .before .before .before .before .before .before .before .args .written) (c .before .before .before .before .before .before .before .before .before .before .before .before .args .operation) (c .before .before .before .before .before .before .before .before .before .before .before .before .args .start) (c .before .before .before .before .before .before .before .before .before .before .before .before .args .taken)) (c .before .before .before .before .before .before .before .before .before .operands .given .1))) (then (c .before .before .before .before .before .before .put-byte .ensures) (c .before .before .put-alone .ensures))
 
 same-length-2 : tie.Need-same-length-2
 same-length-2 c = search needs
 
 returns-3 : tie.Need-returns-3
 returns-3 c =
-    gives (omega arith) (sym (ap (operandsText (c .before .before .before .before .before .before .before .before .before .before .before .before .before .before .before .before .before .before .before .before .before .args .operation) (c .before .before .before .before .before .before .before .before .before .before .before .before .before .before .before .before .before .before .before .before .before .args .start) (c .before .before .before .before .before .before .before .before .before .before .before .before .before .before .before .before .before .before .before .before .before .args .taken)) (c .before .before .before .before .before .before .before .before .before .before .before .before .before .before .before .before .before .before .operands2 .given .1)))
+    gives (omega arith) (sym (ap (operandsText (c .before .before .before .before .before .before .before .before .before .before .before .before .before .before .before .before .before .before .before .before .before .args .reading) (c .before .before .before .before .before .before .before .before .before .before .before .before .before .before .before .before .before .before .before .before .before .args .written) (c .before .before .before .before .before .before .before .before .before .before .before .before .before .before .before .before .before .before .before .before .before .args .operation) (c .before .before .before .before .before .before .before .before .before .before .before .before .before .before .before .before .before .before .before .before .before .args .start) (c .before .before .before .before .before .before .before .before .before .before .before .before .before .before .before .before .before .before .before .before .before .args .taken)) (c .before .before .before .before .before .before .before .before .before .before .before .before .before .before .before .before .before .before .operands2 .given .1)))
     (then (c .before .before .before .before .before .before .before .before .before .before .before .before .before .before .before .put-byte2 .ensures) (then (c .before .before .before .before .before .before .before .before .before .before .before .put-beside .ensures) (then (c .before .before .before .before .before .before .put-bytes .ensures) (c .before .before .put-beside2 .ensures))))
 
 pub put-operands-spec : {M : Type 1} → statement M

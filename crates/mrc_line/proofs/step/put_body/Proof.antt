@@ -27,13 +27,13 @@ same-length : tie.Need-same-length
 same-length c = search needs
 
 returns : tie.Need-returns
-returns c = gives (omega arith) (sym (ap (bodyText (c .before .before .before .before .before .before .before .before .args .start) (c .before .before .before .before .before .before .before .before .args .byte)) (c .before .before .before .before .before .answer .given .1))) (c .before .before .put-instruction .ensures)
+returns c = gives (omega arith) (sym (ap (bodyText (c .before .before .before .before .before .before .before .before .args .reading) (c .before .before .before .before .before .before .before .before .args .start) (c .before .before .before .before .before .before .before .before .args .byte)) (c .before .before .before .before .before .answer .given .1))) (c .before .before .put-instruction .ensures)
 
 same-length-2 : tie.Need-same-length-2
 same-length-2 c = search needs
 
 returns-2 : tie.Need-returns-2
-returns-2 c = gives (omega arith) (sym (ap (bodyText (c .before .before .before .before .before .before .before .args .start) (c .before .before .before .before .before .before .before .args .byte)) (c .before .before .before .before .enum-told .given .1))) (c .before .before .put-db .ensures)
+returns-2 c = gives (omega arith) (sym (ap (bodyText (c .before .before .before .before .before .before .before .args .reading) (c .before .before .before .before .before .before .before .args .start) (c .before .before .before .before .before .before .before .args .byte)) (c .before .before .before .before .enum-told .given .1))) (c .before .before .put-db .ensures)
 
 pub put-body-spec : {M : Type 1} → statement M
 put-body-spec =
