@@ -13,14 +13,16 @@ fn full_image() -> Vec<u8> {
         .collect()
 }
 
+/// All lines of a short image.
+fn listing(image: &[u8]) -> String {
+    let lines = lines(image).expect("a short image");
+    lines.map(|line| line.text).collect()
+}
+
 #[test]
 fn the_example_of_document_01() {
-    let listing: String = lines(&EXAMPLE)
-        .expect("a short image")
-        .map(|line| line.text)
-        .collect();
     assert_eq!(
-        listing,
+        listing(&EXAMPLE),
         "0000  26 8B 47 FE            MOV AX, WORD ES:[BX-02]\n\
          0004  F3 A4                  REPE MOVSB\n\
          0006  75 F8                  JNE 0000\n\
@@ -60,12 +62,8 @@ fn what_is_far_says_so_behind_its_name() {
         0x9A, 0x78, 0x56, 0x34, 0x12, 0xCA, 0x04, 0x00, 0xCB, 0xC3, 0xFF, 0x1F, 0xFF, 0x17, 0xFE,
         0x1F, 0xF3, 0x26, 0xFF, 0x6E, 0x05,
     ];
-    let listing: String = lines(&image)
-        .expect("a short image")
-        .map(|line| line.text)
-        .collect();
     assert_eq!(
-        listing,
+        listing(&image),
         "0000  9A 78 56 34 12         CALL FAR 1234:5678\n\
          0005  CA 04 00               RET FAR 0004\n\
          0008  CB                     RET FAR\n\
@@ -80,12 +78,8 @@ fn what_is_far_says_so_behind_its_name() {
 #[test]
 fn a_displacement_of_zero_is_not_printed() {
     let image = [0x8B, 0x47, 0x00, 0x89, 0x87, 0x00, 0x00, 0xFF, 0x76, 0x00];
-    let listing: String = lines(&image)
-        .expect("a short image")
-        .map(|line| line.text)
-        .collect();
     assert_eq!(
-        listing,
+        listing(&image),
         "0000  8B 47 00               MOV AX, WORD DS:[BX]\n\
          0003  89 87 00 00            MOV WORD DS:[BX], AX\n\
          0007  FF 76 00               PUSH WORD DS:[BP]\n"

@@ -1,24 +1,13 @@
 //! What the two readings answer differently, each beside the other, and what they share.
 
+mod printed;
+
 use mrc::{
     boundary, AddressingMode, DecodeError, Displacement, Immediate, Instruction, Operand,
     OperandSet, OperandSize, Operation, Reach, Reading, RegisterEncoding, Repeat, Result, Segment,
     SizedRegisterEncoding, LONGEST_IMAGE, LONGEST_LINE,
 };
-
-const BOTH: [Reading; 2] = [Reading::One, Reading::Two];
-
-/// What the first line of some bytes has behind the byte field.
-fn words(reading: Reading, bytes: &[u8]) -> String {
-    let mut out = [0; LONGEST_LINE];
-    let written = reading.line(bytes, 0, &mut out).expect("a line");
-    String::from_utf8_lossy(&out[29..written.length - 1]).into_owned()
-}
-
-fn list(bytes: &[u8], first: &str, second: &str) {
-    assert_eq!(words(Reading::One, bytes), first, "{bytes:02X?}");
-    assert_eq!(words(Reading::Two, bytes), second, "{bytes:02X?}");
-}
+use printed::{list, words, BOTH};
 
 fn second(bytes: &[u8]) -> Result<Instruction> {
     Reading::Two.decode_at(bytes, 0, 15).result

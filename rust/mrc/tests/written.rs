@@ -1,20 +1,9 @@
 //! The displacement bytes that were written: how many, and what a line of the second reading prints of them.
 
-use mrc::{record_at, Reading, LONGEST_LINE};
+mod printed;
 
-const BOTH: [Reading; 2] = [Reading::One, Reading::Two];
-
-/// What the first line of some bytes has behind the byte field.
-fn words(reading: Reading, bytes: &[u8]) -> String {
-    let mut out = [0; LONGEST_LINE];
-    let written = reading.line(bytes, 0, &mut out).expect("a line");
-    String::from_utf8_lossy(&out[29..written.length - 1]).into_owned()
-}
-
-fn list(bytes: &[u8], first: &str, second: &str) {
-    assert_eq!(words(Reading::One, bytes), first, "{bytes:02X?}");
-    assert_eq!(words(Reading::Two, bytes), second, "{bytes:02X?}");
-}
+use mrc::{record_at, Reading};
+use printed::{list, words, BOTH};
 
 #[test]
 fn how_many_displacement_bytes_were_written() {
