@@ -1,6 +1,8 @@
 // The given answers: in reading 1 of the Rust that the decoder follows, and in reading 2 of an account made from that Rust's answers. Each line of
 // standard input is a reading, a budget, a position, the record of the answer but for its third operand, and the input, in hex digits. Says how many
 // agree with the decoder's answers, and the line of each that does not.
+#![tactic(auto)]
+
 ghost use Rattle.std.specs.Prelude.{◌≤◌, length};
 
 use libc::{STDIN_FILENO, STDOUT_FILENO};

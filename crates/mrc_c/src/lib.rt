@@ -1,4 +1,6 @@
 // What C and Rust call: the library's answers as numbers, and as records of machine words.
+#![tactic(auto)]
+
 pub mod decode;
 pub mod fields;
 pub mod line;

@@ -13,7 +13,7 @@ use mrc_instruction::reading::Reading;
 
 // What a first byte is: a prefix, or an opcode whose form has the name of its function, with what the opcode says of it. The forms with a ModRM
 // share its reader, and the rarer ones that read nothing stand together.
-#[derive(Drop)]
+#[derive(Clone, Copy)]
 pub enum Form {
     Override,
     Repeat,
@@ -32,7 +32,7 @@ pub enum Form {
     WithModRM(WithModRM, OperandSize),
 }
 
-#[derive(Drop)]
+#[derive(Clone, Copy)]
 pub enum OpcodeAlone {
     Bare(Operation),
     Return(Reach),
@@ -42,7 +42,7 @@ pub enum OpcodeAlone {
     OutDx,
 }
 
-#[derive(Drop)]
+#[derive(Clone, Copy)]
 pub enum WithModRM {
     Pop,
     OnRegisterOrMemory(u8),

@@ -18,7 +18,7 @@ use mrc_instruction::register::{RegisterEncoding, Segment, SegmentField, SizedRe
 use mrc_rules::Answer;
 
 // Which operand is the destination: the register or segment that reg names, or the register or memory.
-#[derive(Drop)]
+#[derive(Clone, Copy)]
 pub enum Direction {
     RegFirst,
     RegMemFirst,

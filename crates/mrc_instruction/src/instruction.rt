@@ -8,28 +8,28 @@ use crate::operation::Operation;
 use crate::register::Segment;
 
 // The destination stands before the source.
-#[derive(Drop)]
+#[derive(Clone, Copy)]
 pub enum OperandSet {
     None,
     Destination(Operand),
     DestinationAndSource(Operand, Operand),
 }
 
-#[derive(Drop)]
+#[derive(Clone, Copy)]
 pub enum Repeat {
     Equal,
     NotEqual,
 }
 
 // An optional repeat.
-#[derive(Drop)]
+#[derive(Clone, Copy)]
 pub enum Repeated {
     None,
     Some(Repeat),
 }
 
 // How far a call, a jump or a return goes: within its segment, or to another. All else is neither.
-#[derive(Drop)]
+#[derive(Clone, Copy)]
 pub enum Reach {
     Neither,
     Near,
@@ -37,14 +37,14 @@ pub enum Reach {
 }
 
 // An optional segment: that of the override before an operation which reads memory that no operand names.
-#[derive(Drop)]
+#[derive(Clone, Copy)]
 pub enum Kept {
     None,
     Some(Segment),
 }
 
 // What is a byte or two stands first, but for the last two, which few instructions have: in an answer each operand then begins a machine word.
-#[derive(Drop)]
+#[derive(Clone, Copy)]
 pub struct Instruction {
     pub reach: Reach,
     pub repeat: Repeated,

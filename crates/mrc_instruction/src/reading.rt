@@ -1,5 +1,5 @@
 // How an instruction's bytes are read: One as the Rust that the decoder follows reads them, Two as the manual of the 8086 has it.
-#[derive(Drop)]
+#[derive(Clone, Copy)]
 pub enum Reading {
     One,
     Two,

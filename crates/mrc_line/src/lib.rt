@@ -1,4 +1,6 @@
 // One listing line, and pages of lines.
+#![tactic(auto)]
+
 pub mod line;
 mod memory;
 mod names;

@@ -7,7 +7,7 @@ use mrc_instruction::reading::Reading;
 use mrc_instruction::widths::WORDS;
 
 // The line's length and the bytes that it accounts for, or why there is no line.
-#[derive(Drop)]
+#[derive(Clone, Copy)]
 pub enum LineAnswer {
     Line { len: usize, taken: usize },
     Refused(Refusal),

@@ -8,7 +8,7 @@ use mrc_instruction::operation::Operation;
 use mrc_instruction::signed::unsigned_word;
 
 // A word in four digits, or a sign and a magnitude.
-#[derive(Drop)]
+#[derive(Clone, Copy)]
 pub enum Printed {
     Word(u16),
     Signed(Displacement),

@@ -17,7 +17,7 @@ const BUDGET: u8 = 15;
 pub const LONGEST: usize = 93;
 
 // Where a line ends, and the bytes that it accounts for.
-#[derive(Drop)]
+#[derive(Clone, Copy)]
 pub struct Written {
     pub end: usize,
     pub taken: usize,

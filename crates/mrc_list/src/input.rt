@@ -5,7 +5,7 @@ ghost use Rattle.mrc_list.specs.Input.{wanted_of, after_read};
 use mrc_line::line::OFFSETS;
 
 // What the input is: an image of so many bytes, too long for one, or not to be read.
-#[derive(Drop)]
+#[derive(Clone, Copy)]
 pub enum Input {
     Image(usize),
     TooLong,
@@ -13,7 +13,7 @@ pub enum Input {
 }
 
 // So many bytes are there, and more may come; or what the input is.
-#[derive(Drop)]
+#[derive(Clone, Copy)]
 pub enum Progress {
     More(usize),
     Read(Input),

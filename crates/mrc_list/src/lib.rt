@@ -1,5 +1,7 @@
 // The listing of standard input on standard output: what the program `list` does. What it decides is promised, in `input` and `listing`;
 // the functions here move bytes between those and the system.
+#![tactic(auto)]
+
 pub mod input;
 pub mod listing;
 

@@ -13,7 +13,7 @@ pub fn too_long() -> [u8; 9]
 }
 
 // A page to write, with the position at which the next one starts; or every page is written.
-#[derive(Drop)]
+#[derive(Clone, Copy)]
 pub enum Turn {
     Page(Page),
     Finished,
