@@ -17,7 +17,7 @@ use Rattle.mrc_instruction.specs.declared.operand.Operand.{Operand}
 use Rattle.mrc_instruction.specs.declared.mrrm.RegisterOrMemory.{RegisterOrMemory}
 use Rattle.mrc_instruction.specs.Register.{register_code}
 use Rattle.mrc_instruction.specs.Operand.{addressing_of, addressing_code}
-use Rattle.mrc_instruction.specs.Signed.{signed_byte, signed_word, unsigned_byte, unsigned_word}
+use Rattle.mrc_instruction.specs.Signed.{signed_word, unsigned_byte, unsigned_word}
 use Rattle.mrc_instruction.specs.Reader.{Reader, done, refuse, next, ◌>>=◌, Outcome, got, stopped, more, read_from, Bytes, a_byte, a_word}
 use Rattle.mrc_instruction.specs.Mrrm.{ModRM, a_register_or_memory, modrm, a_modrm, memory, written_by, written_in, operand_of}
 use Rattle.mrc_instruction.proofs.Codes.{registers_both_ways, modes_both_ways}

@@ -14,10 +14,10 @@ use Rattle.mrc_instruction.specs.Read.{answered, byte_read, word_read, register_
 
 -- where `back` undoes both cases of an answer, it undoes the answer
 module _ {A R : Type 0} (when_got : A → ℕ → R) (when_refused : Refusal → ℕ → R) (back : R → Outcome A)
-    (of-got : (a : A) (n : ℕ) → back (when_got a n) ≡ got a n) (of-refused : (e : Refusal) (n : ℕ) → back (when_refused e n) ≡ stopped e n) where
+    (of_got : (a : A) (n : ℕ) → back (when_got a n) ≡ got a n) (of_refused : (e : Refusal) (n : ℕ) → back (when_refused e n) ≡ stopped e n) where
   undone : (o : Outcome A) → back (answered when_got when_refused o) ≡ o
-  undone (got a n) = of-got a n
-  undone (stopped e n) = of-refused e n
+  undone (got a n) = of_got a n
+  undone (stopped e n) = of_refused e n
 
   pub heard : {r : R} {o : Outcome A} → r ≡ answered when_got when_refused o → back r ≡ o
   heard {o = o} e = ap back e ∙ undone o
@@ -40,8 +40,8 @@ abbrev pub register_or_memory_out : RegisterOrMemoryRead → Outcome RegisterOrM
 register_or_memory_out (RegisterOrMemoryRead.Got a n) = got a n
 register_or_memory_out (RegisterOrMemoryRead.Refused e n) = stopped e n
 
-pub register-or-memory_is : {r : RegisterOrMemoryRead} {o : Outcome RegisterOrMemory} → r ≡ register_or_memory_read o → register_or_memory_out r ≡ o
-register-or-memory_is = heard RegisterOrMemoryRead.Got RegisterOrMemoryRead.Refused register_or_memory_out (λ a n. refl) (λ e n. refl)
+pub register_or_memory_is : {r : RegisterOrMemoryRead} {o : Outcome RegisterOrMemory} → r ≡ register_or_memory_read o → register_or_memory_out r ≡ o
+register_or_memory_is = heard RegisterOrMemoryRead.Got RegisterOrMemoryRead.Refused register_or_memory_out (λ a n. refl) (λ e n. refl)
 
 abbrev pub mrrm_out : MrrmRead → Outcome ModRM
 mrrm_out (MrrmRead.Got m b w n) = got (record { byte = b; mrrm = m }) n

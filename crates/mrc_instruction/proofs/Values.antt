@@ -28,7 +28,7 @@ use Rattle.mrc_instruction.specs.Operand.{addressing_field, addressing_values, A
 use Rattle.mrc_instruction.specs.Mrrm.{a_register_or_memory, a_modrm}
 use Rattle.mrc_instruction.specs.Read.{answered, byte_read, word_read, register_or_memory_read, mrrm_got, mrrm_read, operand_got, operand_read, byte_values, word_values, register_or_memory_values, mrrm_values, MrrmAt, operand_values}
 use Rattle.mrc_instruction.proofs.Sequence.{taken_le}
-use Rattle.mrc_instruction.proofs.Ends.{Takes, Ended, ends, takes_byte, takes_word, takes_register-or-memory, takes_modrm}
+use Rattle.mrc_instruction.proofs.Ends.{Takes, Ended, ends, takes_byte, takes_word, takes_register_or_memory, takes_modrm}
 
 module _ {A : Type 0} where
   reader_said : (l : List ℕ) (o : Outcome A) → taken_by o ≤ length l → Ended l o → OfReader (length l) (outcome_values o)
@@ -79,10 +79,10 @@ byte l = answer_says ByteRead.Got ByteRead.Refused byte_values (λ b n. refl) (�
 pub word : (l : List ℕ) → OfReader (length l) (word_values (word_read (read_from a_word l)))
 word l = answer_says WordRead.Got WordRead.Refused word_values (λ w n. refl) (λ e n. refl) a_word l takes_word
 
-pub register-or-memory : (mode rm : ℕ) (l : List ℕ) → OfReader (length l) (register_or_memory_values (register_or_memory_read (read_from (a_register_or_memory mode rm) l)))
-register-or-memory mode rm l =
+pub register_or_memory : (mode rm : ℕ) (l : List ℕ) → OfReader (length l) (register_or_memory_values (register_or_memory_read (read_from (a_register_or_memory mode rm) l)))
+register_or_memory mode rm l =
     answer_says RegisterOrMemoryRead.Got RegisterOrMemoryRead.Refused register_or_memory_values (λ x n. refl) (λ e n. refl) (a_register_or_memory mode rm) l
-    (takes_register-or-memory mode rm)
+    (takes_register_or_memory mode rm)
 
 pub mrrm : (l : List ℕ) → OfReader (length l) (mrrm_values (mrrm_read (read_from a_modrm l)))
 mrrm l = answer_says mrrm_got MrrmRead.Refused mrrm_values (λ m n. refl) (λ e n. refl) a_modrm l takes_modrm
