@@ -63,7 +63,7 @@ module _ (x : Reading) where
       (image : List ℕ) (at low high : ℕ) (l : List ℕ) → low < 256 → high < 256 →
       let text : List ℕ → ℕ → List ℕ = λ name opcode. head_text at (opcode ∷ low ∷ high ∷ []) ++ (name ++ (hex2 high ++ (hex2 low ++ line_end))) in
       (drop at image ≡ 0xC2 ∷ low ∷ high ∷ l → line_text x image at ≡ text (bytes "RET ") 0xC2)
-      × (drop at image ≡ 0xCA ∷ low ∷ high ∷ l → line_text x image at ≡ text (bytes "RET far_place ") 0xCA)
+      × (drop at image ≡ 0xCA ∷ low ∷ high ∷ l → line_text x image at ≡ text (bytes "RET FAR ") 0xCA)
   returns-listed image at low high l h k = (Returns.near image at low high l h k x, Returns.far image at low high l h k x)
 
   -- a kept override stands between repeat and name, and FAR between name and operands, exactly where the bytes say so: by the first override, the first

@@ -71,8 +71,8 @@ module _ (s : List ℕ) (at low high : ℕ) (l : List ℕ) (low_byte : low < 256
       listed Two (bytes "RET ") 0xC2 (reached Near (one RET (Operand.Immediate (Immediate.Word (low + 256 * high))))) there
       (rw (le-leb at (length s) (within 0xC2 there)) (rw there refl)) refl
 
-  pub far : (x : Reading) → There 0xCA → line_text x s at ≡ text (bytes "RET far_place ") 0xCA
+  pub far : (x : Reading) → There 0xCA → line_text x s at ≡ text (bytes "RET FAR ") 0xCA
   unfolding instruction_text rows row_of a_byte a_word
   far x there =
-      listed x (bytes "RET far_place ") 0xCA (reached Far (one RET (Operand.Immediate (Immediate.Word (low + 256 * high))))) there
+      listed x (bytes "RET FAR ") 0xCA (reached Far (one RET (Operand.Immediate (Immediate.Word (low + 256 * high))))) there
       (rw (le-leb at (length s) (within 0xCA there)) (rw there refl)) refl

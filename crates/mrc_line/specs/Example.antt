@@ -10,10 +10,10 @@ image = 0x26 ∷ 0x8B ∷ 0x47 ∷ 0xFE ∷ 0xF3 ∷ 0xA4 ∷ 0x75 ∷ 0xF8 ∷ 
 
 abbrev pub printed : List String
 printed =
-    "0000  26 8B 47 FE            MOV ax, WORD ES:[BX-02]"
+    "0000  26 8B 47 FE            MOV AX, WORD ES:[BX-02]"
     ∷ "0004  F3 A4                  REPE MOVSB"
     ∷ "0006  75 F8                  JNE 0000"
-    ∷ "0008  83 C0 FF               ADD ax, 00FF"
+    ∷ "0008  83 C0 FF               ADD AX, 00FF"
     ∷ "000B  60                     DB 60"
     ∷ "000C  8B                     DB 8B"
     ∷ []
@@ -39,20 +39,20 @@ transfers =
 
 abbrev pub transfers_printed : List String
 transfers_printed =
-    "0000  9A 78 56 34 12         CALL far_place 1234:5678"
-    ∷ "0005  EA 78 56 34 12         JMP far_place 1234:5678"
-    ∷ "000A  CA 04 00               RET far_place 0004"
-    ∷ "000D  CB                     RET far_place"
+    "0000  9A 78 56 34 12         CALL FAR 1234:5678"
+    ∷ "0005  EA 78 56 34 12         JMP FAR 1234:5678"
+    ∷ "000A  CA 04 00               RET FAR 0004"
+    ∷ "000D  CB                     RET FAR"
     ∷ "000E  C2 04 00               RET 0004"
     ∷ "0011  C3                     RET"
-    ∷ "0012  FF 1F                  CALL far_place WORD DS:[BX]"
+    ∷ "0012  FF 1F                  CALL FAR WORD DS:[BX]"
     ∷ "0014  FF 17                  CALL WORD DS:[BX]"
-    ∷ "0016  FF 2F                  JMP far_place WORD DS:[BX]"
+    ∷ "0016  FF 2F                  JMP FAR WORD DS:[BX]"
     ∷ "0018  FF 27                  JMP WORD DS:[BX]"
     ∷ "001A  FE 1F                  CALL BYTE DS:[BX]"
     ∷ "001C  E8 00 00               CALL 001F"
     ∷ "001F  EB FE                  JMP 001F"
-    ∷ "0021  F3 26 FF 6E 05         REPE JMP far_place WORD ES:[BP+05]"
+    ∷ "0021  F3 26 FF 6E 05         REPE JMP FAR WORD ES:[BP+05]"
     ∷ "0026  CF                     IRET"
     ∷ []
 
@@ -84,16 +84,16 @@ differences =
 
 abbrev pub differences_printed : List String
 differences_printed =
-    "0000  83 C0 FF               ADD ax, FFFF"
-    ∷ "0003  8B 46 02               MOV ax, WORD SS:[BP+02]"
-    ∷ "0006  8B 42 FE               MOV ax, WORD SS:[BP+SI-02]"
-    ∷ "0009  8B 03                  MOV ax, WORD SS:[BP+DI]"
-    ∷ "000B  3E 8B 46 02            MOV ax, WORD DS:[BP+02]"
+    "0000  83 C0 FF               ADD AX, FFFF"
+    ∷ "0003  8B 46 02               MOV AX, WORD SS:[BP+02]"
+    ∷ "0006  8B 42 FE               MOV AX, WORD SS:[BP+SI-02]"
+    ∷ "0009  8B 03                  MOV AX, WORD SS:[BP+DI]"
+    ∷ "000B  3E 8B 46 02            MOV AX, WORD DS:[BP+02]"
     ∷ "000F  8D 5E FC               LEA BX, WORD SS:[BP-04]"
     ∷ "0012  C4 7E 04               LES DI, WORD SS:[BP+04]"
     ∷ "0015  C5 76 06               LDS SI, WORD SS:[BP+06]"
-    ∷ "0018  D2 E0                  SHL al, cl"
-    ∷ "001A  D3 E0                  SHL ax, cl"
+    ∷ "0018  D2 E0                  SHL AL, CL"
+    ∷ "001A  D3 E0                  SHL AX, CL"
     ∷ "001C  C2 04 00               RET 0004"
     ∷ "001F  D9 46 10               ESC WORD SS:[BP+10]"
     ∷ "0022  D8 C3                  ESC BX"
@@ -120,18 +120,18 @@ zeros =
 
 abbrev pub zeros_printed : Reading → List String
 zeros_printed One =
-    "0000  8B 07                  MOV ax, WORD DS:[BX]"
-    ∷ "0002  8B 47 00               MOV ax, WORD DS:[BX]"
-    ∷ "0005  8B 87 00 00            MOV ax, WORD DS:[BX]"
+    "0000  8B 07                  MOV AX, WORD DS:[BX]"
+    ∷ "0002  8B 47 00               MOV AX, WORD DS:[BX]"
+    ∷ "0005  8B 87 00 00            MOV AX, WORD DS:[BX]"
     ∷ "0009  C6 46 00 05            MOV BYTE DS:[BP], 05"
     ∷ "000D  26 FF 77 00            PUSH WORD ES:[BX]"
-    ∷ "0011  8B 47 01               MOV ax, WORD DS:[BX+01]"
+    ∷ "0011  8B 47 01               MOV AX, WORD DS:[BX+01]"
     ∷ []
 zeros_printed Two =
-    "0000  8B 07                  MOV ax, WORD DS:[BX]"
-    ∷ "0002  8B 47 00               MOV ax, WORD DS:[BX+00]"
-    ∷ "0005  8B 87 00 00            MOV ax, WORD DS:[BX+0000]"
+    "0000  8B 07                  MOV AX, WORD DS:[BX]"
+    ∷ "0002  8B 47 00               MOV AX, WORD DS:[BX+00]"
+    ∷ "0005  8B 87 00 00            MOV AX, WORD DS:[BX+0000]"
     ∷ "0009  C6 46 00 05            MOV BYTE SS:[BP+00], 05"
     ∷ "000D  26 FF 77 00            PUSH WORD ES:[BX+00]"
-    ∷ "0011  8B 47 01               MOV ax, WORD DS:[BX+01]"
+    ∷ "0011  8B 47 01               MOV AX, WORD DS:[BX+01]"
     ∷ []

@@ -35,7 +35,7 @@ kept_text (Kept.Some segment) = segment_text segment ++ bytes ": "
 abbrev pub reach_text : Reach → List ℕ
 reach_text Reach.Neither = []
 reach_text Reach.Near = []
-reach_text Reach.Far = bytes " far_place"
+reach_text Reach.Far = bytes " FAR"
 
 -- rule 12.2: LF
 abbrev pub line_end : List ℕ

@@ -23,17 +23,17 @@ use Rattle.mrc_line.specs.Printed.{alone, beside}
 
 -- rule 12.4: the names of registers, segments and modes
 abbrev pub register_text : RegisterEncoding → OperandSize → List ℕ
-register_text AlAx Byte = bytes "al"
-register_text ClCx Byte = bytes "cl"
+register_text AlAx Byte = bytes "AL"
+register_text ClCx Byte = bytes "CL"
 register_text DlDx Byte = bytes "DL"
 register_text BlBx Byte = bytes "BL"
 register_text AhSp Byte = bytes "AH"
 register_text ChBp Byte = bytes "CH"
 register_text DhSi Byte = bytes "DH"
 register_text BhDi Byte = bytes "BH"
-register_text AlAx Word = bytes "ax"
-register_text ClCx Word = bytes "cx"
-register_text DlDx Word = bytes "dx_place"
+register_text AlAx Word = bytes "AX"
+register_text ClCx Word = bytes "CX"
+register_text DlDx Word = bytes "DX"
 register_text BlBx Word = bytes "BX"
 register_text AhSp Word = bytes "SP"
 register_text ChBp Word = bytes "BP"
