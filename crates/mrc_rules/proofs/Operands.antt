@@ -18,7 +18,7 @@ use Rattle.mrc_instruction.specs.declared.instruction.Instruction.{Instruction}
 use Rattle.mrc_instruction.specs.Reader.{Bytes, Outcome, got, stopped, taken_by}
 use Rattle.mrc_rules.specs.declared.Answer.{Answer}
 use Rattle.mrc_rules.specs.Forms.{Tail}
-use Rattle.mrc_rules.specs.Prefixes.{run_of, tail_of, first, is_override, is_repeat, repeat_of, override_segment, Result, reads, refuses, made, keeping, keeps, under}
+use Rattle.mrc_rules.specs.Prefixes.{run_of, tail_of, first, is_override, is_repeat, repeat_of, override_segment, reads, refuses, made, keeping, keeps, under}
 use Rattle.mrc_rules.specs.Decode.{tail, result_of, together, answer, decode_by, decode_at, rules}
 use Rattle.mrc_rules.specs.Operands.{byte_at, operands_of, in_segments, under_first}
 use Rattle.mrc_rules.specs.Operations.{operation_of}

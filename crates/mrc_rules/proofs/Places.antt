@@ -196,7 +196,7 @@ module _ (reading : Reading) (W : List ℕ → Type 0) (P : Refusal → List ℕ
     byte_along f place e w = (
       subst W (append-nil l) (w [] (omega arith)),
       λ b.
-          (ap f (sym (last_byte_lem l b)) ∙ e _, followed_by K l (b ∷ []) k, length-append l (b ∷ [])),
+          (ap f (sym (last_byte_lem l b)) ∙ e (l ++ (b ∷ [])), followed_by K l (b ∷ []) k, length-append l (b ∷ [])),
     )
 
     pub word_along : (f : ℕ → Operand) (place : Place) → ((z : List ℕ) → f (last_word z) ≡ operand_at reading z place)
@@ -207,7 +207,7 @@ module _ (reading : Reading) (W : List ℕ → Type 0) (P : Refusal → List ℕ
       λ low. (
         w (low ∷ []) (omega arith),
         λ high. (
-          ap f (sym (last_word_lem l low high)) ∙ e _,
+          ap f (sym (last_word_lem l low high)) ∙ e ((l ++ (low ∷ [])) ++ (high ∷ [])),
           rw (append_assoc l (low ∷ []) (high ∷ [])) (followed_by K l (low ∷ high ∷ []) k),
           rw (append_assoc l (low ∷ []) (high ∷ [])) (length-append l (low ∷ high ∷ [])),
         ),

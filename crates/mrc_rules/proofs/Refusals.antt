@@ -1,7 +1,7 @@
 -- A decode's number, byte and counts are those of the table of refusals: of a tail by its bytes, then under the prefixes, the budget and
 -- the position.
 -- Assumes nothing.
-use mathlib.Core.Path.{◌≡◌, refl, ap, ap₂, sym, subst, ◌∙◌}
+use mathlib.Core.Path.{◌≡◌, refl, ap₂, ◌∙◌}
 use mathlib.Core.Bool.{Bool, true, false, cond, not, ◌&&◌}
 use mathlib.Core.List.{List, [], ◌∷◌}
 use mathlib.Core.Option.{Option, none, some}
@@ -17,7 +17,7 @@ use Rattle.mrc_instruction.specs.Reader.{Bytes, Outcome, got, stopped, taken_by}
 use Rattle.mrc_rules.specs.declared.Answer.{Answer}
 use Rattle.mrc_rules.specs.Answer.{values_of}
 use Rattle.mrc_rules.specs.Forms.{Tail}
-use Rattle.mrc_rules.specs.Prefixes.{is_override, is_repeat, run_of, tail_of, first, repeat_of, override_segment, Result, reads, refuses, keeping, keeps, under}
+use Rattle.mrc_rules.specs.Prefixes.{is_override, is_repeat, run_of, tail_of, first, repeat_of, override_segment, reads, refuses, keeping, keeps, under}
 use Rattle.mrc_rules.specs.Decode.{tail, result_of, together, answer, decode_by, decode_at, rules}
 use Rattle.mrc_rules.specs.Operands.{byte_at}
 use Rattle.mrc_rules.specs.Refusals.{verdict_of, taken_of, is_bare, under_prefixes, tabled}
