@@ -5,23 +5,38 @@
 pub mod input;
 pub mod listing;
 
-ghost use Rattle.std.specs.Prelude.{◌≤◌, ◌<◌, length};
+ghost use Rattle.std.specs.Prelude.{◌≡◌, ◌≤◌, ◌<◌, ◌^◌, length, IfOk, MatchResult, pos, negsuc};
 ghost use Rattle.mrc_line.specs.Target.{offsets};
 ghost use Rattle.mrc_list.specs.Input.{Fits};
 
 use crate::input::{Input, Progress, after_read, start, wanted};
 use crate::listing::{Turn, next_page, too_long};
-use libc::{STDERR_FILENO, STDIN_FILENO, STDOUT_FILENO};
+use std::io::{self, ErrorKind, Read, Write};
+use std::process::ExitCode;
 
-// Reads standard input to its end, or until a byte too many is there.
-fn read_input(image: &mut [u8]) -> Input
+// What a program ends with that writes to a pipe whose reader went away.
+const BROKEN_PIPE: u8 = 141;
+
+// A read's answer as one number: how many bytes came, or below 0 where it failed.
+fn answer(got: io::Result<usize>) -> isize
+    requires { IfOk got (λ n. n < 2 ^ 63) }
+    ensures { MatchResult got (λ n. result ≡ pos n) (λ e. result ≡ negsuc 0) }
+{
+    match got {
+        Ok(n) => n as isize,
+        Err(_) => -1,
+    }
+}
+
+// Reads the input to its end, or until a byte too many is there.
+fn read_input(from: &mut impl Read, image: &mut [u8]) -> Input
     requires { offsets < length image.old }
     ensures { Fits result }
 {
     let mut there = start();
     loop {
         let end = there + wanted(there);
-        let got = libc::read(STDIN_FILENO, &mut image[there..end]);
+        let got = answer(from.read(&mut image[there..end]));
         match after_read(there, got) {
             Progress::More(filled) => {
                 there = filled;
@@ -33,8 +48,8 @@ fn read_input(image: &mut [u8]) -> Input
     }
 }
 
-// Writes the image's listing a page at a time, and answers whether all of it was written.
-fn write_listing(image: &[u8]) -> bool
+// Writes the image's listing a page at a time.
+fn write_listing(to: &mut impl Write, image: &[u8]) -> io::Result<()>
     requires { length image.now ≤ offsets }
 {
     let mut out = [0u8; 8192];
@@ -43,47 +58,48 @@ fn write_listing(image: &[u8]) -> bool
         match next_page(image, at, &mut out) {
             Turn::Page(page) => {
                 let len = page.len;
-                if !io::write_all(STDOUT_FILENO, &out[..len]) {
-                    return false;
-                }
+                to.write_all(&out[..len])?;
                 at = page.next;
             }
             Turn::Finished => {
-                return true;
+                return Ok(());
             }
         }
     }
 }
 
-fn write_too_long() -> bool {
+fn write_too_long(to: &mut impl Write) -> io::Result<()> {
     let line = too_long();
-    io::write_all(STDOUT_FILENO, &line)
+    to.write_all(&line)
 }
 
-fn cannot_read() {
-    io::write_all(STDERR_FILENO, b"list: cannot read standard input\n");
+fn cannot_read(rt: &impl Eprint) {
+    let _ = rt.eprintln("list: cannot read standard input");
 }
 
-fn cannot_write() {
-    io::write_all(STDERR_FILENO, b"list: cannot write standard output\n");
+fn cannot_write(rt: &impl Eprint) {
+    let _ = rt.eprintln("list: cannot write standard output");
 }
 
-// Lists the image that standard input holds. For an input that is too long it says only that.
-pub fn list() {
+// Lists the image that standard input holds, and answers with what status the program ends. For an input that is too long it says only that.
+pub fn list(rt: &(impl io::Input + Print + Eprint)) -> ExitCode {
     let mut image = [0u8; 65537];
-    match read_input(&mut image) {
-        Input::Image(n) => {
-            if !write_listing(&image[..n]) {
-                cannot_write();
-            }
-        }
-        Input::TooLong => {
-            if !write_too_long() {
-                cannot_write();
-            }
-        }
+    let written = match read_input(&mut rt.reader(), &mut image) {
+        Input::Image(n) => write_listing(&mut io::writer(rt), &image[..n]),
+        Input::TooLong => write_too_long(&mut io::writer(rt)),
         Input::Failed => {
-            cannot_read();
+            cannot_read(rt);
+            return ExitCode::SUCCESS;
+        }
+    };
+    match written {
+        Ok(()) => ExitCode::SUCCESS,
+        Err(e) => {
+            if e.kind() == ErrorKind::BrokenPipe {
+                return ExitCode::from(BROKEN_PIPE);
+            }
+            cannot_write(rt);
+            ExitCode::SUCCESS
         }
     }
 }
