@@ -1,13 +1,17 @@
 // The listing of standard input on standard output: what the program `list` does. What it decides is promised, in `input` and `listing`;
-// the functions here move bytes between those and the system.
+// the functions here move bytes between those and a reader and a writer.
 #![tactic(auto)]
 
 pub mod input;
 pub mod listing;
 
-ghost use Rattle.std.specs.Prelude.{◌≡◌, ◌≤◌, ◌<◌, ◌^◌, length, IfOk, MatchResult, pos, negsuc};
+ghost use Rattle.std.specs.Prelude.{◌≡◌, ◌≤◌, ◌<◌, ◌^◌, length, IfOk, IfSome, OnOk, MatchResult, pos, negsuc};
 ghost use Rattle.mrc_line.specs.Target.{offsets};
-ghost use Rattle.mrc_list.specs.Input.{Fits};
+ghost use Rattle.mrc_list.specs.Input.{Fits, Holds};
+ghost use Rattle.mrc_instruction.specs.declared.reading.Reading.TheVariants.{One};
+ghost use Rattle.mrc_line.specs.Page.{lines_of, text_of};
+ghost use Rattle.mrc_list.specs.Listing.{text_for, too_long_text};
+ghost use Rattle.std.specs.Io.KnownBytes.{Appends};
 
 use crate::input::{Input, Progress, after_read, start, wanted};
 use crate::listing::{Turn, next_page, too_long};
@@ -29,9 +33,10 @@ fn answer(got: io::Result<usize>) -> isize
 }
 
 // Reads the input to its end, or until a byte too many is there.
-fn read_input(from: &mut impl Read, image: &mut [u8]) -> Input
+fn read_input<R: Read>(from: &mut R, image: &mut [u8]) -> Input
     requires { offsets < length image.old }
-    ensures { Fits result }
+    ensures fits { Fits result }
+    ensures bytes { IfSome (R.remaining from.old) (λ xs. Holds xs image.new result) }
 {
     let mut there = start();
     loop {
@@ -49,8 +54,9 @@ fn read_input(from: &mut impl Read, image: &mut [u8]) -> Input
 }
 
 // Writes the image's listing a page at a time.
-fn write_listing(to: &mut impl Write, image: &[u8]) -> io::Result<()>
+fn write_listing<W: Write>(to: &mut W, image: &[u8]) -> io::Result<()>
     requires { length image.now ≤ offsets }
+    ensures { OnOk result (Appends (W.contents to.old) (W.contents to.new) (text_of One image.now (lines_of One image.now))) }
 {
     let mut out = [0u8; 8192];
     let mut at = start();
@@ -68,7 +74,9 @@ fn write_listing(to: &mut impl Write, image: &[u8]) -> io::Result<()>
     }
 }
 
-fn write_too_long(to: &mut impl Write) -> io::Result<()> {
+fn write_too_long<W: Write>(to: &mut W) -> io::Result<()>
+    ensures { OnOk result (Appends (W.contents to.old) (W.contents to.new) too_long_text) }
+{
     let line = too_long();
     to.write_all(&line)
 }
@@ -81,21 +89,35 @@ fn cannot_write(rt: &impl Eprint) {
     let _ = rt.eprintln("list: cannot write standard output");
 }
 
-// Lists the image that standard input holds, and answers with what status the program ends. For an input that is too long it says only that.
-pub fn list(rt: &(impl io::Input + Print + Eprint)) -> ExitCode {
+// Why an input was not listed: it could not be read, or its listing not written.
+#[derive(Drop)]
+pub enum NotListed {
+    Read,
+    Write(io::Error),
+}
+
+// Lists the image that the input is. For an input that is too long it says only that.
+pub fn list_input<R: Read, W: Write>(from: &mut R, to: &mut W) -> Result<(), NotListed>
+    ensures { OnOk result (IfSome (R.remaining from.old) (λ xs. Appends (W.contents to.old) (W.contents to.new) (text_for xs))) }
+{
     let mut image = [0u8; 65537];
-    let written = match read_input(&mut rt.reader(), &mut image) {
-        Input::Image(n) => write_listing(&mut io::writer(rt), &image[..n]),
-        Input::TooLong => write_too_long(&mut io::writer(rt)),
-        Input::Failed => {
-            cannot_read(rt);
-            return ExitCode::SUCCESS;
-        }
-    };
-    match written {
+    match read_input(from, &mut image) {
+        Input::Image(n) => write_listing(to, &image[..n]).map_err(NotListed::Write),
+        Input::TooLong => write_too_long(to).map_err(NotListed::Write),
+        Input::Failed => Err(NotListed::Read),
+    }
+}
+
+// Lists standard input on standard output, and answers with what status the program ends.
+pub fn list(rt: &(impl io::Input + Print + Eprint)) -> ExitCode {
+    match list_input(&mut rt.reader(), &mut io::writer(rt)) {
         Ok(()) => ExitCode::SUCCESS,
-        Err(e) => {
-            if e.kind() == ErrorKind::BrokenPipe {
+        Err(NotListed::Read) => {
+            cannot_read(rt);
+            ExitCode::SUCCESS
+        }
+        Err(NotListed::Write(error)) => {
+            if error.kind() == ErrorKind::BrokenPipe {
                 return ExitCode::from(BROKEN_PIPE);
             }
             cannot_write(rt);
