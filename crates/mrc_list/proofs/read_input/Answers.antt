@@ -1,6 +1,5 @@
 -- A read's answer tells how many bytes came, and they stand behind those that were there.
-use Rattle.std.proofs.Common.{◌≡◌, ℕ, ◌+◌, ◌-◌, sym, ◌∙◌, subst, arith, rules}
-use Rattle.mrc_list.specs.declared.input.Progress.{Progress}
+use Rattle.std.proofs.Common.{◌≡◌, ◌+◌, ◌-◌, sym, ◌∙◌, subst, arith, rules}
 use Rattle.mrc_list.specs.Input.{after_read}
 use Rattle.mrc_list.proofs.Known.{Told, told}
 use Rattle.mrc_list.proofs.read_input.Goals as goal
