@@ -3,10 +3,10 @@
 // agree with the decoder's answers, and the line of each that does not.
 #![tactic(auto)]
 
-ghost use Rattle.std.specs.Prelude.{◌≤◌, length};
+ghost use Rattle.std.specs.Prelude.{◌≡◌, ◌≤◌, length};
 
-use libc::{STDIN_FILENO, STDOUT_FILENO};
 use mrc_c::decode::mrc_decode;
+use std::io::Read;
 
 // The room for the stored answers, and for the bytes of one input.
 const ROOM: usize = 560000;
@@ -96,14 +96,38 @@ fn agrees(s: &[u8], from: usize, end: usize) -> bool
     same_record(record, s, from + 11)
 }
 
-fn report(agree: u64, differ: u64) {
-    io::print_decimal(STDOUT_FILENO, agree);
-    io::write_all(STDOUT_FILENO, b" agree, ");
-    io::print_decimal(STDOUT_FILENO, differ);
-    io::write_all(STDOUT_FILENO, b" differ\n");
+fn report(rt: &impl Print, agree: u64, differ: u64) {
+    let _ = println!(rt; "{agree} agree, {differ} differ");
 }
 
-fn compare_all(s: &[u8])
+// Reads until the room is full, the input ends or a read fails, and answers how many bytes it put at the start of the room.
+fn read_full(from: &mut impl Read, room: &mut [u8]) -> usize
+    ensures { result ≤ length room.new }
+{
+    let mut there: usize = 0;
+    while there < room.len() {
+        match from.read(&mut room[there..]) {
+            Ok(0) => {
+                break;
+            }
+            Ok(more) => {
+                there += more;
+            }
+            Err(_) => {
+                break;
+            }
+        }
+    }
+    there
+}
+
+fn differs(rt: &impl Print, line: &[u8]) {
+    let _ = rt.write_all(b"differs: ");
+    let _ = rt.write_all(line);
+    let _ = rt.write_all(b"\n");
+}
+
+fn compare_all(rt: &impl Print, s: &[u8])
     requires { length s.now ≤ 560000 }
 {
     let mut from: usize = 0;
@@ -115,17 +139,22 @@ fn compare_all(s: &[u8])
             agree += 1;
         } else {
             differ += 1;
-            io::write_all(STDOUT_FILENO, b"differs: ");
-            io::write_all(STDOUT_FILENO, &s[from..end]);
-            io::write_all(STDOUT_FILENO, b"\n");
+            differs(rt, &s[from..end]);
         }
         from = end + 1;
     }
-    report(agree, differ);
+    report(rt, agree, differ);
 }
 
-fn main() {
-    let mut stored = [0u8; ROOM];
-    let n = io::read_full(STDIN_FILENO, &mut stored);
-    compare_all(&stored[..n]);
+// A room of so many bytes, with nothing in it.
+fn empty_room<const N: usize>() -> [u8; N]
+    ensures { length result ≡ N }
+{
+    [0; N]
+}
+
+fn main(rt: HostRuntime) {
+    let mut stored = empty_room::<ROOM>();
+    let n = read_full(&mut rt.reader(), &mut stored);
+    compare_all(&rt, &stored[..n]);
 }

@@ -1,6 +1,8 @@
 // Lists the ROM image that standard input holds.
 #![tactic(auto)]
 
-fn main() {
-    mrc_list::list();
+use std::process::ExitCode;
+
+fn main(rt: HostRuntime) -> ExitCode {
+    mrc_list::list(&rt)
 }

@@ -1,5 +1,5 @@
 -- Rule 14.1: what the reads of an input come to: an image, where it has at most 65,536 bytes, however many reads they come in.
-use Rattle.std.specs.Prelude.{◌≡◌, cond, ℕ, ◌+◌, ◌-◌, ◌≤◌, ltb, eqb, ℤ, pos, negsuc}
+use Rattle.std.specs.Prelude.{◌≡◌, cond, ℕ, ◌+◌, ◌-◌, ◌<◌, ◌≤◌, ltb, eqb, ℤ, pos, negsuc, List, length, take}
 use Rattle.mrc_line.specs.Target.{offsets}
 use Rattle.mrc_list.specs.declared.input.Input.{Input}
 use Rattle.mrc_list.specs.declared.input.Progress.{Progress}
@@ -36,3 +36,10 @@ pub record Comes (n there k : ℕ) : Type 0 where
 pub data Reads (n : ℕ) : ℕ → Input → Type 0 where
   last : {there k : ℕ} {r : Input} → Comes n there k → after_read there (pos k) ≡ Progress.Read r → Reads n there r
   more : {there k filled : ℕ} {r : Input} → Comes n there k → after_read there (pos k) ≡ Progress.More filled → Reads n filled r → Reads n there r
+
+-- what a buffer holds of an input of these bytes, by what it was read as: an image has all of them, from the start of the buffer on; one that is too
+-- long has more of them than there are offsets; where a read failed, nothing is said
+abbrev pub Holds : List ℕ → List ℕ → Input → Type 0
+Holds xs image (Input.Image n) = take n image ≡ xs
+Holds xs image Input.TooLong = offsets < length xs
+Holds xs image Input.Failed = Unit {0}

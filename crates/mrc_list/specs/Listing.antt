@@ -1,14 +1,19 @@
 -- Rules 14.2 and 14.3: what is written for an input: the pages of its listing in reading 1, one after the other; or only the line `TOO LONG`.
-use Rattle.std.specs.Prelude.{◌≡◌, List, [], ◌∷◌, ◌++◌, ℕ, ◌<◌, ◌≤◌, length, take}
+use Rattle.std.specs.Prelude.{◌≡◌, cond, ltb, List, [], ◌∷◌, ◌++◌, ℕ, ◌<◌, ◌≤◌, length, take}
 use Rattle.mrc_instruction.specs.declared.reading.Reading.TheVariants.{One}
 use Rattle.mrc_line.specs.declared.page.Page.{Page}
 use Rattle.mrc_line.specs.Text.{bytes}
 use Rattle.mrc_line.specs.Line.{line_end}
-use Rattle.mrc_line.specs.Page.{Paged}
+use Rattle.mrc_line.specs.Target.{offsets}
+use Rattle.mrc_line.specs.Page.{Paged, lines_of, text_of}
 use Rattle.mrc_list.specs.declared.listing.Turn.{Turn}
 
 abbrev pub too_long_text : List ℕ
 too_long_text = bytes "TOO LONG" ++ line_end
+
+-- what is written for an input of these bytes
+abbrev pub text_for : List ℕ → List ℕ
+text_for xs = cond (ltb offsets (length xs)) too_long_text (text_of One xs (lines_of One xs))
 
 -- a turn's answer, and its buffer before and after: while the image has a byte at the position, the page that starts there; else nothing
 abbrev pub Turned : List ℕ → ℕ → List ℕ → Turn → List ℕ → Type 0
