@@ -15,7 +15,7 @@ use Rattle.mrc_rules.specs.Operands.{byte_at}
 use Rattle.mrc_rules.specs.Reaches.{reach_of}
 use Rattle.mrc_rules.specs.Kept.{kept_of}
 use Rattle.mrc_rules.specs.Written.{written_of}
-use Rattle.mrc_rules.proofs.Operands.{near-or-far, override_kept, displacement_written}
+use Rattle.mrc_rules.proofs.Operands.{near_or_far, override_kept, displacement_written}
 use Rattle.mrc_line.specs.Operands.{operands_text}
 use Rattle.mrc_line.specs.Line.{head_text, repeat_text, kept_text, reach_text, instruction_text, step_text, line_text, line_end, budget}
 
@@ -33,6 +33,6 @@ unfolding line_text step_text instruction_text
 by_the_bytes x s at i n p bytes e =
     let kept = kept_of x (first is_override (run_of (drop at s))) (byte_at (tail_of (drop at s)) 0) in
     let reach = reach_of (tail_of (drop at s)) in
-    ap (step_text x s at) e ∙ ap (λ r. text_by x s at i n i.kept r i.written) (near-or-far x s at budget i n p e)
+    ap (step_text x s at) e ∙ ap (λ r. text_by x s at i n i.kept r i.written) (near_or_far x s at budget i n p e)
     ∙ ap (λ k. text_by x s at i n k reach i.written) (override_kept x s at budget i n p bytes e)
     ∙ ap (text_by x s at i n kept reach) (displacement_written x s at budget i n p e)

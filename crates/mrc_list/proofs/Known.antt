@@ -40,19 +40,19 @@ module _ (a b c : Option (List ℕ)) (image buf : List ℕ) (there w : ℕ) wher
   Told (Progress.More n) = Consumes a c (take n (put_mid there w image buf))
   Told (Progress.Read input) = IfSome a (λ xs. Holds xs (put_mid there w image buf) input)
 
-  told-by :
+  told_by :
       (n : ℕ) (s t : Bool) → (s ≡ true → offsets < there + n) → (t ≡ true → n ≡ 0) → there ≤ length image → n ≤ length buf →
       (n ≡ 0 → IsAtEnd c) → Consumes a c (take there image ++ take n buf) →
       Told (cond s (Progress.Read Input.TooLong) (cond t (Progress.Read (Input.Image there)) (Progress.More (there + n))))
-  told-by n true t f g h m end p =
+  told_by n true t f g h m end p =
       longer a c (take there image ++ take n buf) offsets
       (omega (arith, f refl, length-append (take there image) (take n buf), length-take-le there image h, length-take-le n buf m)) p
-  told-by n false true f g h m end p =
+  told_by n false true f g h m end p =
       let z = g refl in
       let e : there + n ≡ there = omega arith in
       Consumes-whole a c (take there image ++ take n buf) (λ xs. take there (put_mid there w image buf) ≡ xs) p (end z)
       (subst (λ (i : ℕ). take i (put_mid there w image buf) ≡ take there image ++ take n buf) e (filled image buf there w n h m))
-  told-by n false false f g h m end p = subst (Consumes a c) (sym (filled image buf there w n h m)) p
+  told_by n false false f g h m end p = subst (Consumes a c) (sym (filled image buf there w n h m)) p
 
   -- a read into what is left of a buffer, where the bytes before that are what the reads before it gave
   pub told :
@@ -60,6 +60,6 @@ module _ (a b c : Option (List ℕ)) (image buf : List ℕ) (there w : ℕ) wher
       there ≤ length image → 0 < length buf → Consumes a b (take there image) → Told (after_read there z)
   told (Ok n) z e m q h l p =
       subst (λ (x : ℤ). Told (after_read there x)) (sym e)
-      (told-by n (ltb offsets (there + n)) (eqb n 0) (λ d. ltb-true offsets (there + n) d) (λ d. eqb-true n 0 d) h (omega (arith, m))
+      (told_by n (ltb offsets (there + n)) (eqb n 0) (λ d. ltb-true offsets (there + n) d) (λ d. eqb-true n 0 d) h (omega (arith, m))
       (λ d. q.1 d l) (Consumes-trans a b c (take there image) (take n buf) p q.0))
   told (Err x) z e m q h l p = subst (λ (x : ℤ). Told (after_read there x)) (sym e) (nothing a)

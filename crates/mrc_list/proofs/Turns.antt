@@ -91,11 +91,11 @@ settled s at out = go (ltb at (length s)) refl
     ended (Turn.Page p) done h t = absurd (omega (arith, t.0))
     ended Turn.Finished done h t = ap (λ (x : List ℕ). (Turn.Finished, x)) t.1
 
-    paged-only :
+    paged_only :
         (r : Turn) (done : List ℕ) → at < length s → Turned s at out r done →
         ◌≡◌ {A = Turn × List ℕ} (r, done) (Turn.Page (page_settled One s at out).answer.0, (page_settled One s at out).answer.1)
-    paged-only (Turn.Page p) done h t = ap (λ (x : Page × List ℕ). (Turn.Page x.0, x.1)) ((page_settled One s at out).only (p, done) t.1)
-    paged-only Turn.Finished done h t = absurd (omega (arith, t.0))
+    paged_only (Turn.Page p) done h t = ap (λ (x : Page × List ℕ). (Turn.Page x.0, x.1)) ((page_settled One s at out).only (p, done) t.1)
+    paged_only Turn.Finished done h t = absurd (omega (arith, t.0))
 
     go : (b : Bool) → ltb at (length s) ≡ b → ExactlyOne {A = Turn × List ℕ} (λ p. Turned s at out p.0 p.1)
     go true e =
@@ -103,7 +103,7 @@ settled s at out = go (ltb at (length s)) refl
         record {
           answer = (Turn.Page (page_settled One s at out).answer.0, (page_settled One s at out).answer.1);
           meets = (l, (page_settled One s at out).meets);
-          only = λ p t. paged-only p.0 p.1 l t;
+          only = λ p t. paged_only p.0 p.1 l t;
         }
     go false e =
         let l = ltb-false at (length s) e in

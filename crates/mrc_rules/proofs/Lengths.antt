@@ -64,18 +64,18 @@ one_short [] n h = refl
 one_short (e ∷ l) zero h = and_first (is_short e) (All l) h
 one_short (e ∷ l) (suc n) h = one_short l n (and_second (is_short e) (All l) h)
 
-short-length : (e : Extra) (l : List ℕ) → is_short e ≡ true → length_by e l ≤ 6
+short_length : (e : Extra) (l : List ℕ) → is_short e ≡ true → length_by e l ≤ 6
 unfolding displacement_bytes
-short-length (fixed n) l h = omega (arith, leb-true n 5 h)
-short-length (modrm n) l h = omega (arith, leb-true n 2 h, displacement_short (byte_at l 1 / 64) (byte_at l 1 % 8))
-short-length (tested n) l h = go (eqb (reg_at l) 0)
+short_length (fixed n) l h = omega (arith, leb-true n 5 h)
+short_length (modrm n) l h = omega (arith, leb-true n 2 h, displacement_short (byte_at l 1 / 64) (byte_at l 1 % 8))
+short_length (tested n) l h = go (eqb (reg_at l) 0)
   where
     go : (t : Bool) → 2 + displacement_by (byte_at l 1 / 64) (byte_at l 1 % 8) + cond t n 0 ≤ 6
     go true = omega (arith, leb-true n 2 h, displacement_short (byte_at l 1 / 64) (byte_at l 1 % 8))
     go false = omega (arith, displacement_short (byte_at l 1 / 64) (byte_at l 1 % 8))
 
 whole_short : (x : Reading) (l : List ℕ) → whole_length x l ≤ 6
-whole_short x l = short-length (get_or (extras x) (byte_at l 0) no) l (one_short (extras x) (byte_at l 0) (all_short x))
+whole_short x l = short_length (get_or (extras x) (byte_at l 0) no) l (one_short (extras x) (byte_at l 0) (all_short x))
 
 tail_six : (x : Reading) (l : List ℕ) → taken_by (tail (rules x) l) ≤ 6
 tail_six x [] = omega arith
@@ -88,9 +88,9 @@ tail_six x (opcode ∷ l) = go (tail (rules x) (opcode ∷ l)) (tail_comes x opc
 
 -- one to six bytes, under any rules by which no tail takes more than six
 module _ (R : Rules) (tail-short : (l : List ℕ) → taken_by (tail R l) ≤ 6) where
-  tail-length : (l : List ℕ) → Got (tail R l) → (1 ≤ taken_by (tail R l)) × (taken_by (tail R l) ≤ 6)
-  tail-length [] h = absurd h
-  tail-length (op ∷ l) h = (omega (arith, taken_more (read_from (R.follow op) l)), tail-short (op ∷ l))
+  tail_length : (l : List ℕ) → Got (tail R l) → (1 ≤ taken_by (tail R l)) × (taken_by (tail R l) ≤ 6)
+  tail_length [] h = absurd h
+  tail_length (op ∷ l) h = (omega (arith, taken_more (read_from (R.follow op) l)), tail-short (op ∷ l))
 
   six_by : (b : ℕ) (l : List ℕ) → taken (decode_by R b l) ≤ prefixes (decode_by R b l) + 6
   six_by b l = go (leb (length (run_of l)) b)
@@ -111,7 +111,7 @@ module _ (R : Rules) (tail-short : (l : List ℕ) → taken_by (tail R l) ≤ 6)
   length_by_lem b l h =
       let run = run_of l in
       let t = tail R (tail_of l) in
-      let len = tail-length (tail_of l) (got_together R run t (subst Success (success_is R b l h) h)) in
+      let len = tail_length (tail_of l) (got_together R run t (subst Success (success_is R b l h) h)) in
       rw (success_is R b l h) (omega (arith, len, taken_together R run t, prefixes_together R run t))
 
   Short : Answer → Type 0

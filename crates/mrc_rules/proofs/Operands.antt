@@ -131,16 +131,16 @@ at_placed x s at b = go (leb at (length s))
     go true = decode_placed x b (drop at s)
     go false = tt
 
-pub destination-and-source : (x : Reading) (s : List ℕ) (at b : ℕ) (i : Instruction) (n p : ℕ) → decode_at x s at b ≡ Answer.Decoded i n p
+pub destination_and_source : (x : Reading) (s : List ℕ) (at b : ℕ) (i : Instruction) (n p : ℕ) → decode_at x s at b ≡ Answer.Decoded i n p
     → i.operands ≡ under_first (first is_override (run_of (drop at s))) (operands_of x (take (n - p) (tail_of (drop at s))))
-destination-and-source x s at b i n p e = (subst (AnswerPlaced x (drop at s)) e (at_placed x s at b)).operands
+destination_and_source x s at b i n p e = (subst (AnswerPlaced x (drop at s)) e (at_placed x s at b)).operands
 
 pub operation_named : (x : Reading) (s : List ℕ) (at b : ℕ) (i : Instruction) (n p : ℕ) → decode_at x s at b ≡ Answer.Decoded i n p
     → operation_of (tail_of (drop at s)) ≡ some i.operation
 operation_named x s at b i n p e = (subst (AnswerPlaced x (drop at s)) e (at_placed x s at b)).operation
 
-pub near-or-far : (x : Reading) (s : List ℕ) (at b : ℕ) (i : Instruction) (n p : ℕ) → decode_at x s at b ≡ Answer.Decoded i n p → i.reach ≡ reach_of (tail_of (drop at s))
-near-or-far x s at b i n p e = (subst (AnswerPlaced x (drop at s)) e (at_placed x s at b)).reach
+pub near_or_far : (x : Reading) (s : List ℕ) (at b : ℕ) (i : Instruction) (n p : ℕ) → decode_at x s at b ≡ Answer.Decoded i n p → i.reach ≡ reach_of (tail_of (drop at s))
+near_or_far x s at b i n p e = (subst (AnswerPlaced x (drop at s)) e (at_placed x s at b)).reach
 
 pub displacement_written : (x : Reading) (s : List ℕ) (at b : ℕ) (i : Instruction) (n p : ℕ) → decode_at x s at b ≡ Answer.Decoded i n p
     → i.written ≡ written_of x (take (n - p) (tail_of (drop at s)))

@@ -263,13 +263,13 @@ module _ (reading : Reading) (size : OperandSize) where
   group_f6_along operand byte l s (suc (suc n)) e =
       let here = at_end (Says reading size operand byte) l s.0 in
       let more : eqb (suc (suc n)) 0 ≡ false = ne_eqb (suc (suc n)) 0 (omega arith) in
-      let not-one : eqb (suc (suc n)) 1 ≡ false = ne_eqb (suc (suc n)) 1 (omega arith) in
+      let not_one : eqb (suc (suc n)) 1 ≡ false = ne_eqb (suc (suc n)) 1 (omega arith) in
       record {
         operands = rw (sym (field here) ∙ e, more) (ap OperandSet.Destination here.by_rm);
         operation = λ x. rw ((s.0 x).second, e) (in_list (NOT ∷ NEG ∷ MUL ∷ IMUL ∷ DIV ∷ IDIV ∷ []) n IDIV (omega arith));
         reach = λ x. refl;
         whole = λ x. rw ((s.0 x).second, e, more) (omega (arith, s.1));
-        told = λ x. rw ((s.0 x).second, e, not-one) refl;
+        told = λ x. rw ((s.0 x).second, e, not_one) refl;
         keeper = refl;
         nothing_kept = refl;
         written = refl;

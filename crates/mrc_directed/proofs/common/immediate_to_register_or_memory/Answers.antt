@@ -1,0 +1,25 @@
+-- One reader, and then done. The sums fit, since what a reader took is there.
+-- Assumes nothing.
+use Rattle.std.proofs.Common.{refl, ap, nat_eq, arith}
+use Rattle.mrc_rules.specs.Forms.{an_immediate}
+use Rattle.mrc_directed.proofs.Either.{immediate_either}
+use Rattle.mrc_instruction.proofs.Sequence.{took, done_at, stop_at}
+use Rattle.mrc_forms.specs.Answers.{form_read}
+use Rattle.mrc_forms.proofs.Outcomes.{immediate_is}
+use Rattle.mrc_directed.proofs.common.immediate_to_register_or_memory.Goals as goal
+
+pub overflow_add-at : goal.overflow_add-at
+overflow_add-at c = omega (arith, took (an_immediate c.args.size) c.args.s.now c.args.at (immediate_is c.in-Got.ensures))
+
+pub returns-in-Got : goal.returns-in-Got
+returns-in-Got c =
+    rw (c.decoded.ensures, c.immediate_operation-operation.ensures, c.reg_field.ensures, immediate_either (nat_eq c.args.group 0x80) c.args.size c.args.destination c.args.byte)
+    (ap (form_read c.args.at) (done_at (an_immediate c.args.size) _ c.args.s.now c.args.at (immediate_is c.in-Got.ensures) refl))
+
+pub overflow_add-result : goal.overflow_add-result
+overflow_add-result c = omega (arith, took (an_immediate c.args.size) c.args.s.now c.args.at (immediate_is c.in-Refused.ensures))
+
+pub returns-in-Refused : goal.returns-in-Refused
+returns-in-Refused c =
+    rw (immediate_either (nat_eq c.args.group 0x80) c.args.size c.args.destination c.args.byte)
+    (ap (form_read c.args.at) (stop_at (an_immediate c.args.size) _ c.args.s.now c.args.at (immediate_is c.in-Refused.ensures)))
