@@ -1,6 +1,6 @@
 -- The displacement's bits read back as its number, whose sign and magnitude are put.
 -- Assumes nothing.
-use Rattle.std.proofs.Common.{ℕ, ℤ, ◌∷◌, nat_abs, sym, ap, ◌∙◌, arith, to_z-of_z, w8, w16, SFits, rules}
+use Rattle.std.proofs.Common.{ℕ, ◌∷◌, nat_abs, sym, ap, ◌∙◌, arith, to_z-of_z, w8, w16, SFits, rules}
 use Rattle.mrc_line.specs.Text.{hex2, hex4}
 use Rattle.mrc_line.specs.Operands.{sign_of, displacement_text}
 use Rattle.mrc_line.proofs.Put.{then, gives}

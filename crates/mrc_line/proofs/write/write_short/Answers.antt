@@ -1,6 +1,6 @@
 -- The line is put into a buffer first, so that its length is known before all of it or none is copied.
 -- Assumes nothing.
-use Rattle.std.proofs.Common.{◌≡◌, ℕ, ◌-◌, ◌≤◌, List, length, take, refl, ap, ◌∙◌, arith, length-take-le}
+use Rattle.std.proofs.Common.{ℕ, ◌-◌, take, ap, ◌∙◌, arith, length-take-le}
 use Rattle.mrc_instruction.specs.declared.errors.Refusal.{Refusal}
 use Rattle.mrc_line.proofs.Put.{same, kept}
 use Rattle.mrc_line.proofs.Answers.{refused, no_room, written, told, line_held}
