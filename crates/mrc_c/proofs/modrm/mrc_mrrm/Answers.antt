@@ -4,4 +4,4 @@ use Rattle.mrc_c.proofs.Counts.{modrm_small}
 use Rattle.mrc_c.proofs.modrm.mrc_mrrm.Goals as goal
 
 pub modrm_record-requires : goal.modrm_record-requires
-modrm_record-requires c = rw c.read_mrrm.ensures.answer (modrm_small c.args.s.now c.args.at)
+modrm_record-requires c = rw c.read_mrrm.ensures.answer (modrm_small _ _)

@@ -6,14 +6,12 @@ use Rattle.mrc_c.proofs.page.mrc_page.Goals as goal
 
 pub overflow_mul-result : goal.overflow_mul-result
 overflow_mul-result c =
-    let a = c.args in
     let p = c.write_page-page.ensures in
-    let k = page_small c.reading_of.result a.image.now a.at (length a.out.now) in
-    omega (arith, p.next, k.1)
+    let k = page_small c.reading_of.result c.args.image.now c.args.at (length c.args.out.now) in
+    omega (arith, p.len, p.next, k.0, k.1)
 
 pub overflow_add-result : goal.overflow_add-result
 overflow_add-result c =
-    let a = c.args in
     let p = c.write_page-page.ensures in
-    let k = page_small c.reading_of.result a.image.now a.at (length a.out.now) in
+    let k = page_small c.reading_of.result c.args.image.now c.args.at (length c.args.out.now) in
     omega (arith, p.len, p.next, k.0, k.1)
