@@ -1,4 +1,4 @@
-/* The proved 8086 decoder and lister, from C on x86-64. Link libmrc_c.a, which `rt staticlib mrc_c` writes.
+/* The proved 8086 decoder and lister, from C on x86-64. Link libmrc_c.a, which `tools/archive` writes.
  *
  * Every call answers for every input: no position, budget, reading, field or length is forbidden. The caller owns each buffer and
  * record, lends it for the call alone, and what is written to overlaps nothing else that is lent. A pointer whose length is 0 is not

@@ -1,4 +1,4 @@
-//! Links the proved library: the archive that MRC_C names, or the one that `rt staticlib mrc_c` writes.
+//! Links the proved library: the archive that MRC_C names, or the one that `tools/archive` writes.
 
 use std::path::{Path, PathBuf};
 use std::{env, fs, process};
@@ -10,7 +10,7 @@ fn main() {
     if !archive.is_file() {
         eprintln!(
             "the archive of the proved library is missing: {}\n\
-             make it with `rt staticlib mrc_c` in the project's root, or name another one in MRC_C",
+             make it with `tools/archive` in the project's root, or name another one in MRC_C",
             archive.display()
         );
         process::exit(1);

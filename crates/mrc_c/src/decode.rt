@@ -8,8 +8,7 @@ use crate::record::record_of;
 use mrc_decoder::decode::decode_instruction;
 
 // Writes the record of a decode in a reading.
-#[unsafe(no_mangle)]
-pub extern "C" fn mrc_decode(s: &[u8], at: usize, budget: u8, reading: u8, out: &mut [u64; 5])
+pub fn mrc_decode(s: &[u8], at: usize, budget: u8, reading: u8, out: &mut [u64; 5])
     ensures { Written (record_of (decode_at (reading_of reading) s.now at budget)) out.new }
 {
     *out = record_of(decode_instruction(s, at, budget, reading_of(reading)));

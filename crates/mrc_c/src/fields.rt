@@ -16,8 +16,7 @@ fn refusal_code(refusal: Refusal) -> u32
     (WORDS as u32) * (refusal.number() as u32) + (refusal.byte() as u32)
 }
 
-#[unsafe(no_mangle)]
-pub extern "C" fn mrc_register(field: u8) -> u32
+pub fn mrc_register(field: u8) -> u32
     ensures { result ≡ register_number (register_field field) }
 {
     match RegisterEncoding::try_from_encoding(field) {
@@ -26,8 +25,7 @@ pub extern "C" fn mrc_register(field: u8) -> u32
     }
 }
 
-#[unsafe(no_mangle)]
-pub extern "C" fn mrc_segment(field: u8) -> u32
+pub fn mrc_segment(field: u8) -> u32
     ensures { result ≡ segment_number (segment_field field) }
 {
     match Segment::try_from_encoding(field) {
@@ -36,8 +34,7 @@ pub extern "C" fn mrc_segment(field: u8) -> u32
     }
 }
 
-#[unsafe(no_mangle)]
-pub extern "C" fn mrc_addressing(field: u8) -> u32
+pub fn mrc_addressing(field: u8) -> u32
     ensures { result ≡ addressing_number (addressing_field field) }
 {
     match AddressingMode::try_from_encoding(field) {

@@ -7,8 +7,7 @@ use mrc_instruction::widths::{DOUBLE_WORDS, WORDS};
 use mrc_line::line::{LineAnswer, line};
 
 // Writes a line, and answers its length and 65,536 times the bytes taken; or 4,294,967,296 times the refusal's number, nothing being written.
-#[unsafe(no_mangle)]
-pub extern "C" fn mrc_line(image: &[u8], at: usize, reading: u8, out: &mut [u8]) -> u64
+pub fn mrc_line(image: &[u8], at: usize, reading: u8, out: &mut [u8]) -> u64
     ensures { LineWritten (reading_of reading) image.now at out.old result out.new }
 {
     match line(image, at, reading_of(reading), out) {

@@ -61,8 +61,7 @@ fn modrm_record(read: MrrmRead) -> [u64; 2]
 }
 
 // Writes the record of a ModRM.
-#[unsafe(no_mangle)]
-pub extern "C" fn mrc_mrrm(s: &[u8], at: usize, out: &mut [u64; 2])
+pub fn mrc_mrrm(s: &[u8], at: usize, out: &mut [u64; 2])
     ensures { ModrmWritten (modrm_of (mrrm_read (read_at a_modrm s.now at))) out.new }
 {
     *out = modrm_record(read_mrrm(s, at));

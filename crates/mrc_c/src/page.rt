@@ -7,8 +7,7 @@ use mrc_instruction::widths::DOUBLE_WORDS;
 use mrc_line::page::write_page;
 
 // Writes as many whole lines as fit, and answers the length of their text and 4,294,967,296 times the bytes of the image that they account for.
-#[unsafe(no_mangle)]
-pub extern "C" fn mrc_page(image: &[u8], at: usize, reading: u8, out: &mut [u8]) -> u64
+pub fn mrc_page(image: &[u8], at: usize, reading: u8, out: &mut [u8]) -> u64
     ensures { PageWritten (reading_of reading) image.now at out.old result out.new }
 {
     let page = write_page(image, at, reading_of(reading), out);

@@ -10,8 +10,7 @@ fn own_size(size: u8) -> u8
 }
 
 // 0 for Byte, 1 for Word, 2 for no size and for a kind or a size that does not exist.
-#[unsafe(no_mangle)]
-pub extern "C" fn mrc_operand_size(kind: u8, size: u8) -> u8
+pub fn mrc_operand_size(kind: u8, size: u8) -> u8
     ensures { result ≡ size_number kind size }
 {
     let own = own_size(size);

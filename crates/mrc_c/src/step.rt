@@ -10,8 +10,7 @@ use mrc_instruction::widths::{DOUBLE_WORDS, WORDS};
 use mrc_rules::Answer;
 
 // The bytes taken, 65,536 times the prefixes, and 4,294,967,296 times the refusal's number, 0 for an instruction.
-#[unsafe(no_mangle)]
-pub extern "C" fn mrc_step(s: &[u8], at: usize, budget: u8, reading: u8) -> u64
+pub fn mrc_step(s: &[u8], at: usize, budget: u8, reading: u8) -> u64
     ensures { result ≡ step_code (decode_at (reading_of reading) s.now at budget) }
 {
     match decode_instruction(s, at, budget, reading_of(reading)) {

@@ -22,21 +22,21 @@ pub record Told (x : Reading) (s : List ℕ) (at room len taken : ℕ) : Type 0 
 
 module _ (x : Reading) where
   -- each answer carries what its row of the table has
-  values-by :
+  values_by :
       (s : List ℕ) (at len taken : ℕ) (a b c d : Bool) →
       line_values x s at (cond a (Refused ImageTooLong) (cond b (Refused OutsideInput) (cond c (Refused EndOfInput) (cond d (Refused NoRoom) (Line len taken)))))
       ≡ cond a (carrying 13 0 0 0) (cond b (carrying 11 0 0 0) (cond c (carrying 1 0 0 0) (cond d (carrying 12 0 0 0) (carrying 0 0 taken (line_prefixes x s at)))))
-  values-by s at len taken true b c d = refl
-  values-by s at len taken false true c d = refl
-  values-by s at len taken false false true d = refl
-  values-by s at len taken false false false true = refl
-  values-by s at len taken false false false false = refl
+  values_by s at len taken true b c d = refl
+  values_by s at len taken false true c d = refl
+  values_by s at len taken false false true d = refl
+  values_by s at len taken false false false true = refl
+  values_by s at len taken false false false false = refl
 
   pub line_values_lem : (s : List ℕ) (at room : ℕ) {r : LineAnswer} → r ≡ answer_of x s at room → line_values x s at r ≡ values_at x s at room
   unfolding answer_of values_at
   line_values_lem s at room e =
       ap (line_values x s at) e
-      ∙ values-by s at (length (line_text x s at)) (line_taken x s at) (ltb offsets (length s)) (ltb (length s) at) (eqb (length s) at) (ltb room (length (line_text x s at)))
+      ∙ values_by s at (length (line_text x s at)) (line_taken x s at) (ltb offsets (length s)) (ltb (length s) at) (eqb (length s) at) (ltb room (length (line_text x s at)))
 
   module _ (s : List ℕ) (at : ℕ) (out : List ℕ) where
     -- a refusal, with the buffer as it was

@@ -1,6 +1,6 @@
 -- No line is longer than `longest`: each text's length is computed case by case, and added up along the line.
 -- Assumes nothing.
-use Rattle.std.proofs.Common.{◌≡◌, ℕ, zero, suc, ◌+◌, ◌-◌, ◌≤◌, List, [], ◌∷◌, ◌++◌, length, get_or, take, drop, replicate, refl, arith, lit≤, length-append, length-take}
+use Rattle.std.proofs.Common.{◌≡◌, ℕ, zero, suc, ◌-◌, ◌≤◌, List, [], ◌∷◌, ◌++◌, length, get_or, take, drop, replicate, refl, arith, lit≤, length-append, length-take}
 use lib.ListN.{length-replicate}
 use Rattle.mrc_instruction.specs.declared.reading.Reading.{Reading}
 use Rattle.mrc_instruction.specs.declared.reading.Reading.TheVariants.{One, Two}
@@ -30,7 +30,7 @@ use Rattle.mrc_line.specs.declared.printed.Printed.{Printed}
 use Rattle.mrc_line.specs.Printed.{alone, beside}
 use Rattle.mrc_line.specs.Operands.{register_text, segment_text, mode_text, size_text, zeros_text, offset_text, immediate_text, memory_text, printed_text, operand_text, operands_text}
 use Rattle.mrc_line.specs.Line.{head_text, repeat_text, kept_text, reach_text, instruction_text, body_text, step_taken, step_text, line_text, longest, budget}
-use Rattle.mrc_line.proofs.Put.{pairs-length}
+use Rattle.mrc_line.proofs.Put.{pairs_length}
 
 register : (r : RegisterEncoding) (size : OperandSize) → length (register_text r size) ≡ 2
 register AlAx Byte = refl
@@ -119,7 +119,7 @@ head : (start : ℕ) (taken : List ℕ) → length (head_text start taken) ≡ 2
 unfolding head_text
 head start taken =
     let p = pairs (take shown taken) in
-    omega (arith, pairs-length (take shown taken), length-take shown taken, length-append p (replicate (field_width - length p) 32), length-replicate {A = ℕ} (field_width - length p) 32, length-append (padded field_width p) (bytes "  "))
+    omega (arith, pairs_length (take shown taken), length-take shown taken, length-append p (replicate (field_width - length p) 32), length-replicate {A = ℕ} (field_width - length p) 32, length-append (padded field_width p) (bytes "  "))
 
 repeated : (r : Repeated) → length (repeat_text r) ≤ 6
 repeated Repeated.None = lit≤ tt

@@ -1,7 +1,7 @@
 -- A displacement at a wider width, where that of -32,768 has a magnitude too: its bits read back as the number, and the magnitude moves an offset
 -- up or down.
 -- Assumes nothing.
-use Rattle.std.proofs.Common.{◌≡◌, ℕ, suc, ◌+◌, ◌-◌, ◌%◌, ◌^◌, ◌<◌, true, false, T, leb, ℤ, pos, negsuc, ◌-ℤ◌, nat_abs, refl, arith, to_z-of_z, w8, w16, w32, Fits, SFits, to_z, of_z, ltb-true}
+use Rattle.std.proofs.Common.{◌≡◌, ℕ, suc, ◌+◌, ◌%◌, ◌^◌, ◌<◌, true, false, T, leb, ℤ, pos, negsuc, ◌-ℤ◌, nat_abs, refl, arith, to_z-of_z, w8, w16, w32, Fits, SFits, to_z, of_z, ltb-true}
 use borrow.Author.Rules.{sfits_of}
 use lib.Signed.{lt_z, non_neg}
 use mir.Syntax.{Width}

@@ -59,16 +59,16 @@ module _ (x : Reading) where
   page_short image at room = let k = Pages.page_short x image at room in (k.text, k.taken)
 
   -- RET with a word, C2 or CA, lists the word as it stands behind the opcode, the high byte first, wherever it is
-  pub returns-listed :
+  pub returns_listed :
       (image : List ℕ) (at low high : ℕ) (l : List ℕ) → low < 256 → high < 256 →
       let text : List ℕ → ℕ → List ℕ = λ name opcode. head_text at (opcode ∷ low ∷ high ∷ []) ++ (name ++ (hex2 high ++ (hex2 low ++ line_end))) in
       (drop at image ≡ 0xC2 ∷ low ∷ high ∷ l → line_text x image at ≡ text (bytes "RET ") 0xC2)
       × (drop at image ≡ 0xCA ∷ low ∷ high ∷ l → line_text x image at ≡ text (bytes "RET FAR ") 0xCA)
-  returns-listed image at low high l h k = (Returns.near image at low high l h k x, Returns.far image at low high l h k x)
+  returns_listed image at low high l h k = (Returns.near image at low high l h k x, Returns.far image at low high l h k x)
 
   -- a kept override stands between repeat and name, and FAR between name and operands, exactly where the bytes say so: by the first override, the first
   -- byte behind the prefixes, and reg; and an operand in memory is printed by the bytes between ModRM and immediate
-  pub printed-by-the-bytes :
+  pub printed_by_the_bytes :
       (image : List ℕ) (at : ℕ) (i : Instruction) (n p : ℕ) → Bytes image → decode_at x image at budget ≡ Answer.Decoded i n p →
       let kept = kept_text (kept_of x (first is_override (run_of (drop at image))) (byte_at (tail_of (drop at image)) 0)) in
       let far = reach_text (reach_of (tail_of (drop at image))) in
@@ -76,7 +76,7 @@ module _ (x : Reading) where
       line_text x image at
       ≡ head_text at (take n (drop at image))
       ++ ((repeat_text i.repeat ++ (kept ++ (name_of i.operation ++ (far ++ operands_text x written i.operation at n i.operands)))) ++ line_end)
-  printed-by-the-bytes = ByBytes.by_the_bytes x
+  printed_by_the_bytes = ByBytes.by_the_bytes x
 
   -- the lines of an image account for all its bytes, for each once
   pub each_byte_once : (image : List ℕ) → bytes_of x image (lines_of x image) ≡ image
@@ -91,22 +91,22 @@ module _ (x : Reading) where
       pages_from x (length image) image 0 room ≡ text_of x image (lines_of x image)
   pages_joined = Pages.pages_joined x
 
-  pub pages-joined-at :
+  pub pages_joined_at :
       (image : List ℕ) (room : ℕ) → length image ≤ offsets → longest ≤ room →
       pages_from x (length image) image 0 room ≡ text_of x image (lines_of x image)
-  pages-joined-at image room h k = Pages.pages_joined x image room h (λ at l. le_trans (Lengths.line_longest x image at) k)
+  pages_joined_at image room h k = Pages.pages_joined x image room h (λ at l. le_trans (Lengths.line_longest x image at) k)
 
 -- RET's number as a word, whatever the place: none, a byte, and words of either sign
-pub returns-counted :
+pub returns_counted :
     (start taken : ℕ) →
     map (λ d. printed_text (alone RET start taken d)) (Displacement.None ∷ Displacement.Byte (negsuc 1) ∷ Displacement.Word (negsuc 3) ∷ Displacement.Word (pos 4) ∷ [])
     ≡ map bytes ("0000" ∷ "FFFE" ∷ "FFFC" ∷ "0004" ∷ [])
-returns-counted start taken = refl
+returns_counted start taken = refl
 
 -- the displacement of every other operation as its target
-pub others-have-targets :
+pub others_have_targets :
     (o : Operation) → (o ≡ RET → ⊥) → (start taken : ℕ) (d : Displacement) → alone o start taken d ≡ Printed.Word (target_of start taken d)
-others-have-targets = Returns.targets
+others_have_targets = Returns.targets
 
 -- the examples' lines, the first two in reading 1 and the third in reading 2
 pub example : map (line_text One image) (lines_of One image) ≡ map (λ t. bytes t ++ line_end) printed

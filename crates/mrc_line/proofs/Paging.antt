@@ -1,8 +1,7 @@
 -- The loop of a page: what stands in the buffer so far are whole lines, and the page is these and what still fits from the next position on.
 -- Assumes nothing.
-use Rattle.std.proofs.Common.{◌≡◌, ℕ, zero, suc, ◌+◌, ◌-◌, ◌<◌, ◌≤◌, List, [], ◌∷◌, ◌++◌, length, take, drop, sym, refl, ap, ◌∙◌, subst, append_assoc, append-nil, arith, length-append, length-drop, take-append-drop, length-take-le, drop-drop, take_at, drop_at}
+use Rattle.std.proofs.Common.{◌≡◌, ℕ, zero, suc, ◌+◌, ◌-◌, ◌<◌, ◌≤◌, List, [], ◌∷◌, ◌++◌, length, drop, sym, refl, ap, ◌∙◌, subst, append_assoc, append-nil, arith, take-append-drop}
 use borrow.Rule.Slice.PartMut.{mid_of, put_mid, put_same, same_len_mid}
-use lib.Seq.{drop-append-le}
 use Rattle.mrc_instruction.specs.declared.reading.Reading.{Reading}
 use Rattle.mrc_instruction.specs.declared.errors.Refusal.{Refusal}
 use Rattle.mrc_line.specs.declared.line.LineAnswer.{LineAnswer}
@@ -12,7 +11,7 @@ use Rattle.mrc_line.specs.Target.{offsets}
 use Rattle.mrc_line.specs.Line.{line_text, line_taken, answer_of, after, Listed, longest}
 use Rattle.mrc_line.specs.Page.{lines_from, text_of, taken_of, fitting, page_of, Paged, Paging}
 use Rattle.mrc_line.proofs.Put.{then, none}
-use Rattle.mrc_line.proofs.Parts.{mid_length, put-behind}
+use Rattle.mrc_line.proofs.Parts.{mid_length, put_behind}
 use Rattle.mrc_line.proofs.Takes.{line_takes}
 use Rattle.mrc_line.proofs.Lines.{lines_more, lines_past, enough}
 use Rattle.mrc_line.proofs.Pages.{fits, stops, page_is, page_none, moves}
@@ -22,13 +21,13 @@ use Rattle.mrc_line.proofs.Answers.{Told, told, lacks}
 module _ (x : Reading) where
   -- ---- lines that are put one after the other
 
-  text-append : (s : List ℕ) (a b : List ℕ) → text_of x s (a ++ b) ≡ text_of x s a ++ text_of x s b
-  text-append s [] b = refl
-  text-append s (y ∷ a) b = ap (λ (l : List ℕ). line_text x s y ++ l) (text-append s a b) ∙ sym (append_assoc (line_text x s y) (text_of x s a) (text_of x s b))
+  text_append : (s : List ℕ) (a b : List ℕ) → text_of x s (a ++ b) ≡ text_of x s a ++ text_of x s b
+  text_append s [] b = refl
+  text_append s (y ∷ a) b = ap (λ (l : List ℕ). line_text x s y ++ l) (text_append s a b) ∙ sym (append_assoc (line_text x s y) (text_of x s a) (text_of x s b))
 
-  taken-append : (s : List ℕ) (a b : List ℕ) → taken_of x s (a ++ b) ≡ taken_of x s a + taken_of x s b
-  taken-append s [] b = omega arith
-  taken-append s (y ∷ a) b = omega (arith, taken-append s a b)
+  taken_append : (s : List ℕ) (a b : List ℕ) → taken_of x s (a ++ b) ≡ taken_of x s a + taken_of x s b
+  taken_append s [] b = omega arith
+  taken_append s (y ∷ a) b = omega (arith, taken_append s a b)
 
   pub begins : (s : List ℕ) (at : ℕ) (out : List ℕ) → Paging x s at out out 0 at
   begins s at out =
@@ -71,7 +70,7 @@ module _ (x : Reading) where
       pub grown : Put (length (line_text x s next)) out o (line_text x s next) (put_mid o (length out - o) out last) (o + len)
       grown =
           subst (λ (n : ℕ). Put (length (line_text x s next)) out o (line_text x s next) (put_mid o (length out - o) out last) (o + n)) (sym tells.len_is)
-          (put-behind out o (line_text x s next) last p.inside (omega (arith, tells.fits, p.long)) at_line)
+          (put_behind out o (line_text x s next) last p.inside (omega (arith, tells.fits, p.long)) at_line)
 
       by_count :
           length last ≡ length (mid_of o (length out - o) out) → next < length s → (f : ℕ) → length s ≤ next + f →
@@ -83,7 +82,7 @@ module _ (x : Reading) where
           let room : length out₀ - o - length (line_text x s next) ≡ length out₀ - (o + len) = omega (arith, t.len_is) in
           let long = same_len_mid o (length out - o) out last k in
           let w = then p.put grown in
-          let text = text-append s p.lines (next ∷ []) ∙ ap (λ (y : List ℕ). text_of x s p.lines ++ y) (append-nil (line_text x s next)) in
+          let text = text_append s p.lines (next ∷ []) ∙ ap (λ (y : List ℕ). text_of x s p.lines ++ y) (append-nil (line_text x s next)) in
           let w' = subst (λ (y : List ℕ). Put (o + length (line_text x s next)) out₀ 0 y (put_mid o (length out - o) out last) (o + len)) (sym text) w in
           record {
             f = f;
@@ -98,7 +97,7 @@ module _ (x : Reading) where
                 ∙ ap (λ (n : ℕ). p.lines ++ (next ∷ fitting x s n (lines_from x f s (next + line_taken x s next)))) room
                 ∙ ap (λ (n : ℕ). p.lines ++ (next ∷ fitting x s (length out₀ - (o + len)) (lines_from x f s (next + n)))) (sym t.taken_is)
                 ∙ sym (append_assoc p.lines (next ∷ []) (fitting x s (length out₀ - (o + len)) (lines_from x f s (next + taken))));
-            goes = omega (arith, p.goes, t.taken_is, taken-append s p.lines (next ∷ []));
+            goes = omega (arith, p.goes, t.taken_is, taken_append s p.lines (next ∷ []));
           }
 
       pub goes_on :
@@ -146,10 +145,10 @@ module _ (x : Reading) where
     stopped zero g k r = absurd (omega arith)
     stopped (suc f) g k r = ap (fitting x s (length out₀ - o)) (lines_more x f s next k) ∙ stops x s (length out₀ - o) next (lines_from x f s (next + line_taken x s next)) r
 
-    pub ends-refused :
+    pub ends_refused :
         next < length s → (r : LineAnswer) (last : List ℕ) → Listed x s next (mid_of o (length out - o) out) r last → (e : Refusal) → r ≡ Refused e →
         Paged x s at out₀ (record { len = o; next = next }) (put_mid o (length out - o) out last)
-    ends-refused k r last l e q =
+    ends_refused k r last l e q =
         subst (λ (d : List ℕ). Paged x s at out₀ (record { len = o; next = next }) d) (sym (as_it_was p r last l e q))
         (ends (stopped p.f p.left k (lacks x s next (length out₀ - o) e h k (sym q ∙ answered p r last l))))
 

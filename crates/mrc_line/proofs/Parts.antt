@@ -8,10 +8,10 @@ use Rattle.mrc_line.specs.Text.{Put}
 pub mid_length : (d : List ℕ) (o : ℕ) → o ≤ length d → length (mid_of o (length d - o) d) ≡ length d - o
 mid_length d o h = length-take-le (length d - o) (drop o d) (rw (length-drop o d) (omega arith))
 
-pub put-behind :
+pub put_behind :
     (d : List ℕ) (o : ℕ) (t e : List ℕ) → o ≤ length d → length t ≤ length d - o → e ≡ t ++ drop (length t) (mid_of o (length d - o) d) →
     Put (length t) d o t (put_mid o (length d - o) d e) (o + length t)
-put-behind d o t e h g q =
+put_behind d o t e h g q =
     let k = length d - o in
     let m = mid_of o k d in
     let y = drop (length t) m in

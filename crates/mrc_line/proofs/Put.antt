@@ -87,13 +87,13 @@ gives {n} {m} {s} {at} {d = d} {r = r} h e p = subst (λ (x : List ℕ). Put m s
 pub same : {n : ℕ} {s : List ℕ} {at : ℕ} {t u d : List ℕ} {r : ℕ} → t ≡ u → Put n s at t d r → Put n s at u d r
 same {n} {s} {at} {d = d} {r = r} e p = subst (λ (x : List ℕ). Put n s at x d r) e p
 
-pairs-append : (xs ys : List ℕ) → pairs (xs ++ ys) ≡ pairs xs ++ pairs ys
-pairs-append [] ys = refl
-pairs-append (x ∷ xs) ys = ap (λ (l : List ℕ). hex2 x ++ 32 ∷ l) (pairs-append xs ys)
+pairs_append : (xs ys : List ℕ) → pairs (xs ++ ys) ≡ pairs xs ++ pairs ys
+pairs_append [] ys = refl
+pairs_append (x ∷ xs) ys = ap (λ (l : List ℕ). hex2 x ++ 32 ∷ l) (pairs_append xs ys)
 
-pub pairs-length : (l : List ℕ) → length (pairs l) ≡ 3 * length l
-pairs-length [] = refl
-pairs-length (b ∷ l) = omega (arith, pairs-length l)
+pub pairs_length : (l : List ℕ) → length (pairs l) ≡ 3 * length l
+pairs_length [] = refl
+pairs_length (b ∷ l) = omega (arith, pairs_length l)
 
 blanks : (k n : ℕ) → drop {A = ℕ} k (replicate n 32) ≡ replicate (n - k) 32
 blanks zero n = let z : n ≡ n - 0 = omega arith in ap (λ (m : ℕ). replicate m 32) z
@@ -101,16 +101,16 @@ blanks (suc k) zero = let z : 0 ≡ 0 - suc k = omega arith in ap (λ (m : ℕ).
 blanks (suc k) (suc n) = let z : n - k ≡ suc n - suc k = omega arith in blanks k n ∙ ap (λ (m : ℕ). replicate m 32) z
 
 -- two digits over the blanks behind pairs are one pair more
-pub pair-more :
+pub pair_more :
     (n : ℕ) (l : List ℕ) (b : ℕ) → length (pairs l) + 3 ≤ n →
     pairs l ++ (hex2 b ++ drop {A = ℕ} 2 (replicate (n - length (pairs l)) 32)) ≡ padded n (pairs (l ++ (b ∷ [])))
-pair-more n l b h =
+pair_more n l b h =
     let p = pairs l in
     let w : length (p ++ pairs (b ∷ [])) ≡ length p + 3 = length-append p (pairs (b ∷ [])) in
     let z : (n - length p) - 2 ≡ suc (n - length (p ++ pairs (b ∷ []))) = omega arith in
     ap (λ (x : List ℕ). p ++ (hex2 b ++ x)) (blanks 2 (n - length p) ∙ ap (λ (m : ℕ). replicate {A = ℕ} m 32) z)
     ∙ sym (append_assoc p (pairs (b ∷ [])) (replicate (n - length (p ++ pairs (b ∷ []))) 32))
-    ∙ ap (padded n) (sym (pairs-append l (b ∷ [])))
+    ∙ ap (padded n) (sym (pairs_append l (b ∷ [])))
 
 -- the first n of a list, by the shorter of n and its length
 pub first : (n k : ℕ) (l : List ℕ) → k ≡ min n (length l) → take k l ≡ take n l

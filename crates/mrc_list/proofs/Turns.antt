@@ -2,8 +2,8 @@
 -- Assumes nothing.
 use mathlib.Core.Path.{◌≡◌, refl, sym, ap, ◌∙◌, subst}
 use mathlib.Core.Bool.{Bool, true, false}
-use mathlib.Core.List.{List, [], ◌∷◌, ◌++◌}
-use Prim.Native.Nat.{ℕ, zero, suc, ◌+◌, ◌-◌, ◌<◌, ◌≤◌}
+use mathlib.Core.List.{List, ◌++◌}
+use Prim.Native.Nat.{ℕ, zero, suc, ◌+◌, ◌<◌, ◌≤◌}
 use native.Mathlib.Omega.{arith}
 use native.Mathlib.Nat.{le_trans}
 use borrow.Author.Tests.{lt-ltb, ltb-true, ltb-false}
@@ -15,7 +15,7 @@ use Rattle.mrc_instruction.specs.Promise.{ExactlyOne}
 use Rattle.mrc_line.specs.declared.page.Page.{Page}
 use Rattle.mrc_line.specs.Target.{offsets}
 use Rattle.mrc_line.specs.Line.{line_text, longest}
-use Rattle.mrc_line.specs.Page.{lines_from, lines_of, text_of, taken_of, page_of, pages_from, Paged}
+use Rattle.mrc_line.specs.Page.{lines_from, text_of, taken_of, page_of, pages_from, Paged}
 use Rattle.mrc_line.proofs.Lengths.{line_longest}
 use Rattle.mrc_line.proofs.Lines.{lines_past}
 use Rattle.mrc_line.proofs.Pages.{pages_from_lem}

@@ -1,5 +1,5 @@
 -- Rules 14.2 and 14.3: what is written for an input: the pages of its listing in reading 1, one after the other; or only the line `TOO LONG`.
-use Rattle.std.specs.Prelude.{◌≡◌, cond, ltb, List, [], ◌∷◌, ◌++◌, ℕ, ◌<◌, ◌≤◌, length, take}
+use Rattle.std.specs.Prelude.{◌≡◌, cond, ltb, List, [], ◌++◌, ℕ, ◌<◌, ◌≤◌, length, take}
 use Rattle.mrc_instruction.specs.declared.reading.Reading.TheVariants.{One}
 use Rattle.mrc_line.specs.declared.page.Page.{Page}
 use Rattle.mrc_line.specs.Text.{bytes}

@@ -1,4 +1,4 @@
-//! The functions that `crates/mrc_c` exports, wrapped so that no caller can break their boundary. include/mrc.h says what
+//! The functions that `crates/mrc_c_abi` exports, wrapped so that no caller can break their boundary. include/mrc.h says what
 //! each answers and what it writes.
 #![allow(unsafe_code)]
 

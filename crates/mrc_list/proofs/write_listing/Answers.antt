@@ -1,6 +1,5 @@
 -- The writer took the page, and where none is left, the pages are the listing.
-use Rattle.std.proofs.Common.{rules, arith, subst}
-use Rattle.mrc_list.specs.Listing.{Turned}
+use Rattle.std.proofs.Common.{rules}
 use Rattle.mrc_list.proofs.Written.{writing_on, writing_ends}
 use Rattle.mrc_list.proofs.write_listing.Goals as goal
 
