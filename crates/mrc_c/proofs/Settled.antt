@@ -11,7 +11,7 @@ use Rattle.mrc_instruction.specs.Promise.{ExactlyOne}
 use Rattle.mrc_line.specs.Line.{line_text, answer_of, after}
 use Rattle.mrc_line.specs.Page.{text_of, page_of}
 use Rattle.mrc_c.specs.Operands.{FieldsFit, fields_in}
-use Rattle.mrc_c.specs.Record.{HeadFits, BodyFits, Record, Fits, words_of, record_in, Written}
+use Rattle.mrc_c.specs.Record.{Record, Fits, words_of, record_in, Written}
 use Rattle.mrc_c.specs.Modrm.{ModrmFits, Modrm, modrm_words, ModrmWritten}
 use Rattle.mrc_c.specs.Line.{line_code, LineWritten}
 use Rattle.mrc_c.specs.Page.{page_code, PageWritten}
