@@ -17,7 +17,7 @@ use Rattle.mrc_list.specs.Listing.{Turned, Writes}
 use Rattle.mrc_list.proofs.Counts as Counts
 use Rattle.mrc_list.proofs.Turns as Turns
 
--- exactly one answer and one buffer meet the promise of `next_page`; every other promise here is an equation
+-- exactly one answer and one buffer meet the promise of `next_page`; the other promises of `input` and `listing` are equations
 pub next_page_settled : (image : List ℕ) (at : ℕ) (out : List ℕ) → ExactlyOne {A = Turn × List ℕ} (λ p. Turned image at out p.0 p.1)
 next_page_settled = Turns.settled
 
