@@ -146,7 +146,7 @@ fn compare_all(rt: &impl Print, s: &[u8])
     report(rt, agree, differ);
 }
 
-// A room of so many bytes, with nothing in it.
+// A room of so many bytes, with nothing in it. Its size is a parameter: the checker would write an array of that many bytes out.
 fn empty_room<const N: usize>() -> [u8; N]
     ensures { length result ≡ N }
 {

@@ -54,12 +54,17 @@ module _ (a b c : Option (List ℕ)) (image buf : List ℕ) (there w : ℕ) wher
       (subst (λ (i : ℕ). take i (put_mid there w image buf) ≡ take there image ++ take n buf) e (filled image buf there w n h m))
   told_by n false false f g h m end p = subst (Consumes a c) (sym (filled image buf there w n h m)) p
 
-  -- a read into what is left of a buffer, where the bytes before that are what the reads before it gave
-  pub told :
+  told_after :
       {E : Type 0} (r : Result ℕ E) (z : ℤ) → MatchResult r (λ n. z ≡ pos n) (λ e. z ≡ negsuc 0) → ReadsAtMost r buf → ReadConsumes b c r buf →
       there ≤ length image → 0 < length buf → Consumes a b (take there image) → Told (after_read there z)
-  told (Ok n) z e m q h l p =
+  told_after (Ok n) z e m q h l p =
       subst (λ (x : ℤ). Told (after_read there x)) (sym e)
       (told_by n (ltb offsets (there + n)) (eqb n 0) (λ d. ltb-true offsets (there + n) d) (λ d. eqb-true n 0 d) h (omega (arith, m))
       (λ d. q.1 d l) (Consumes-trans a b c (take there image) (take n buf) p q.0))
-  told (Err x) z e m q h l p = subst (λ (x : ℤ). Told (after_read there x)) (sym e) (nothing a)
+  told_after (Err x) z e m q h l p = subst (λ (x : ℤ). Told (after_read there x)) (sym e) (nothing a)
+
+  -- a read into what is left of a buffer, where the bytes before that are what the reads before it gave: its answer, and the progress that it came to
+  pub told :
+      {E : Type 0} (r : Result ℕ E) (z : ℤ) (p : Progress) → MatchResult r (λ n. z ≡ pos n) (λ e. z ≡ negsuc 0) → p ≡ after_read there z → ReadsAtMost r buf →
+      ReadConsumes b c r buf → there ≤ length image → 0 < length buf → Consumes a b (take there image) → Told p
+  told r z p e is m q h l before = subst Told (sym is) (told_after r z e m q h l before)
