@@ -1,51 +1,49 @@
--- An answer stands for the outcome that it was made from.
+-- A reader's answer stands for the outcome that it was made from, and so does the answer whose bytes are counted from before on.
 -- Assumes nothing.
-use mathlib.Core.Path.{◌≡◌, refl, ap, ◌∙◌}
-use Prim.Native.Nat.{ℕ}
-use Rattle.mrc_instruction.specs.declared.errors.Refusal.{Refusal}
-use Rattle.mrc_instruction.specs.declared.read.ByteRead.{ByteRead}
-use Rattle.mrc_instruction.specs.declared.read.WordRead.{WordRead}
-use Rattle.mrc_instruction.specs.declared.mrrm.RegisterOrMemory.{RegisterOrMemory}
-use Rattle.mrc_instruction.specs.declared.mrrm.RegisterOrMemoryRead.{RegisterOrMemoryRead}
-use Rattle.mrc_instruction.specs.declared.mrrm.MrrmRead.{MrrmRead}
-use Rattle.mrc_instruction.specs.Reader.{Outcome, got, stopped}
-use Rattle.mrc_instruction.specs.Mrrm.{ModRM}
-use Rattle.mrc_instruction.specs.Read.{answered, byte_read, word_read, register_or_memory_read, mrrm_got, mrrm_read}
+use mathlib.Core.Path.{◌≡◌, refl, ap, sym, ◌∙◌}
+use mathlib.Core.List.{List}
+use lib.ListN.{length, drop}
+use Prim.Native.Nat.{ℕ, ◌+◌, ◌<◌, ◌^◌, ◌%◌}
+use native.Mathlib.Omega.{arith}
+use Rattle.std.specs.Prelude.{Ok, Err, IsErrAnd}
+use Rattle.mrc_instruction.specs.declared.read.Stop.{Stop}
+use Rattle.mrc_instruction.specs.Reader.{Reader, done, Outcome, got, stopped, taken_by, after, mapped, read_from, ◌>>=◌}
+use Rattle.mrc_instruction.specs.declared.read.Taken.{Taken}
+use Rattle.mrc_instruction.specs.Read.{Read, told, counted_from}
+use Rattle.mrc_instruction.proofs.Sequence.{took, two_done}
 
--- where `back` undoes both cases of an answer, it undoes the answer
-module _ {A R : Type 0} (when_got : A → ℕ → R) (when_refused : Refusal → ℕ → R) (back : R → Outcome A)
-    (of_got : (a : A) (n : ℕ) → back (when_got a n) ≡ got a n) (of_refused : (e : Refusal) (n : ℕ) → back (when_refused e n) ≡ stopped e n) where
-  undone : (o : Outcome A) → back (answered when_got when_refused o) ≡ o
-  undone (got a n) = of_got a n
-  undone (stopped e n) = of_refused e n
+pub small : (n k : ℕ) → n + k < 2 ^ 64 → (n + k) % 2 ^ 64 ≡ n + k
+small n k h = omega arith
 
-  pub heard : {r : R} {o : Outcome A} → r ≡ answered when_got when_refused o → back r ≡ o
-  heard {o = o} e = ap back e ∙ undone o
+module _ {A : Type 0} where
+  abbrev pub out : Read A → Outcome A
+  out (Ok t) = got t.value t.taken
+  out (Err e) = stopped e.refusal e.taken
 
-abbrev pub byte_out : ByteRead → Outcome ℕ
-byte_out (ByteRead.Got a n) = got a n
-byte_out (ByteRead.Refused e n) = stopped e n
+  out_told : (o : Outcome A) → out (told o) ≡ o
+  out_told (got a n) = refl
+  out_told (stopped e n) = refl
 
-pub byte_is : {r : ByteRead} {o : Outcome ℕ} → r ≡ byte_read o → byte_out r ≡ o
-byte_is = heard ByteRead.Got ByteRead.Refused byte_out (λ a n. refl) (λ e n. refl)
+  pub read_is : {r : Read A} {o : Outcome A} → r ≡ told o → out r ≡ o
+  read_is {o = o} e = ap out e ∙ out_told o
 
-abbrev pub word_out : WordRead → Outcome ℕ
-word_out (WordRead.Got a n) = got a n
-word_out (WordRead.Refused e n) = stopped e n
+  out_counted : (n : ℕ) (o : Outcome A) → n + taken_by o < 2 ^ 64 → out (counted_from n (told o)) ≡ after n o
+  out_counted n (got a k) h = ap (got a) (small n k h)
+  out_counted n (stopped e k) h = ap (stopped e) (small n k h)
 
-pub word_is : {r : WordRead} {o : Outcome ℕ} → r ≡ word_read o → word_out r ≡ o
-word_is = heard WordRead.Got WordRead.Refused word_out (λ a n. refl) (λ e n. refl)
+  pub counted_is : (n : ℕ) (o : Outcome A) {r x : Read A} → x ≡ counted_from n r → r ≡ told o → n + taken_by o < 2 ^ 64 → out x ≡ after n o
+  counted_is n o e h b = ap out (e ∙ ap (counted_from n) h) ∙ out_counted n o b
 
-abbrev pub register_or_memory_out : RegisterOrMemoryRead → Outcome RegisterOrMemory
-register_or_memory_out (RegisterOrMemoryRead.Got a n) = got a n
-register_or_memory_out (RegisterOrMemoryRead.Refused e n) = stopped e n
+  -- what `?` passes on
+  pub passed : {e : Stop} (r : Read A) → IsErrAnd r (λ y. y ≡ e) → r ≡ Err e
+  passed (Ok t) h = absurd h
+  passed (Err y) h = ap Err h
 
-pub register_or_memory_is : {r : RegisterOrMemoryRead} {o : Outcome RegisterOrMemory} → r ≡ register_or_memory_read o → register_or_memory_out r ≡ o
-register_or_memory_is = heard RegisterOrMemoryRead.Got RegisterOrMemoryRead.Refused register_or_memory_out (λ a n. refl) (λ e n. refl)
-
-abbrev pub mrrm_out : MrrmRead → Outcome ModRM
-mrrm_out (MrrmRead.Got m b w n) = got (record { byte = b; mrrm = m }) n
-mrrm_out (MrrmRead.Refused e n) = stopped e n
-
-pub mrrm_is : {r : MrrmRead} {o : Outcome ModRM} → r ≡ mrrm_read o → mrrm_out r ≡ o
-mrrm_is = heard mrrm_got MrrmRead.Refused mrrm_out (λ a n. refl) (λ e n. refl)
+-- m at a position, and then what k says by what was read, at the position behind, counted from the first on
+module _ {A B C : Type 0} (m : Reader A) (k : A → Reader B) (g : A → B → C) (s : List ℕ) (at : ℕ) where
+  pub one_and_another : {t : Taken A} {r x : Read B} → length s < 2 ^ 64 → Ok t ≡ told (read_from m (drop at s)) → r ≡ told (read_from (k t.value) (drop (at + t.taken) s))
+      → x ≡ counted_from t.taken r → mapped (g t.value) (out x) ≡ read_from (m >>= λ a. k a >>= λ b. done (g a b)) (drop at s)
+  one_and_another {t} b e h q =
+      let o = read_from (k t.value) (drop (at + t.taken) s) in
+      let first = read_is e in
+      two_done m k g s at first (counted_is t.taken o q h (omega (arith, took m s at first, took (k t.value) s (at + t.taken) {o = o} refl)))

@@ -9,12 +9,7 @@ use native.Mathlib.Omega.{arith}
 use lib.ListN.{length, drop, length-drop}
 use lib.Seq.{drop-drop}
 use Rattle.mrc_instruction.specs.declared.errors.Refusal.{Refusal}
-use Rattle.mrc_instruction.specs.Reader.{Reader, done, refuse, next, Outcome, got, stopped, taken_by, more, read_from, ◌>>=◌}
-
--- n bytes were taken before this
-abbrev pub after : {A : Type 0} → ℕ → Outcome A → Outcome A
-after n (got a k) = got a (n + k)
-after n (stopped e k) = stopped e (n + k)
+use Rattle.mrc_instruction.specs.Reader.{Reader, done, refuse, next, Outcome, got, stopped, taken_by, more, after, mapped, read_from, ◌>>=◌}
 
 module _ {A : Type 0} where
   after_zero : (o : Outcome A) → o ≡ after 0 o
@@ -78,3 +73,24 @@ module _ {A B : Type 0} where
     -- m stopped
     pub stop_at : {x : Refusal} {n : ℕ} → stopped x n ≡ read_from m (drop at s) → stopped x n ≡ read_from (m >>= f) (drop at s)
     stop_at e = ap (through (λ a n. read_from (f a) (drop n (drop at s)))) e ∙ sym (then m f (drop at s))
+
+-- m, and then it is done with what g makes of it
+module _ {A B : Type 0} (m : Reader A) (g : A → B) where
+  pub one_done : (s : List ℕ) (at : ℕ) {o : Outcome A} → o ≡ read_from m (drop at s) → mapped g o ≡ read_from (m >>= λ a. done (g a)) (drop at s)
+  one_done s at {o = o} e = go o e
+    where
+      go : (o : Outcome A) → o ≡ read_from m (drop at s) → mapped g o ≡ read_from (m >>= λ a. done (g a)) (drop at s)
+      go (got a n) e = done_at m (λ a. done (g a)) s at e refl
+      go (stopped x n) e = stop_at m (λ a. done (g a)) s at e
+
+-- m, then what k says by what was got, and then it is done with what g makes of both
+module _ {A B C : Type 0} (m : Reader A) (k : A → Reader B) (g : A → B → C) where
+  mapped_after : (a : A) (n : ℕ) (o : Outcome B) → mapped (g a) (after n o) ≡ after n (mapped (g a) o)
+  mapped_after a n (got b i) = refl
+  mapped_after a n (stopped x i) = refl
+
+  pub two_done : (s : List ℕ) (at : ℕ) {a : A} {n : ℕ} {o : Outcome B} → got a n ≡ read_from m (drop at s) → o ≡ after n (read_from (k a) (drop (at + n) s))
+      → mapped (g a) o ≡ read_from (m >>= λ a. k a >>= λ b. done (g a b)) (drop at s)
+  two_done s at {a} {n} {o} e h =
+      ap (mapped (g a)) h ∙ mapped_after a n (read_from (k a) (drop (at + n) s))
+      ∙ then_at m (λ a. k a >>= λ b. done (g a b)) s at e (one_done (k a) (g a) s (at + n) refl)

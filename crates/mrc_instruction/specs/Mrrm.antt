@@ -59,6 +59,11 @@ or_none written (pos zero) = Displacement.None
 or_none written (pos (suc n)) = written (pos (suc n))
 or_none written (negsuc n) = written (negsuc n)
 
+abbrev pub zero_as_none : Displacement → Displacement
+zero_as_none Displacement.None = Displacement.None
+zero_as_none (Displacement.Byte d) = or_none Displacement.Byte d
+zero_as_none (Displacement.Word d) = or_none Displacement.Word d
+
 -- the operand of a size; rule 4.4: Direct is in DS, Indirect in the segment of its mode
 abbrev pub operand_of : Reading → OperandSize → RegisterOrMemory → Operand
 operand_of x size (RegisterOrMemory.Direct w) = Operand.Direct Segment.DS size w

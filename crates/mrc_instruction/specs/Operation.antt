@@ -1,8 +1,7 @@
 -- The operations in order, their numbers, and the operation of a number.
-use Rattle.std.specs.Prelude.{List, [], ◌∷◌, cond, ℕ, ltb, length, get_or}
+use Rattle.std.specs.Prelude.{List, [], ◌∷◌, cond, ℕ, ltb, length, get_or, Option, Some, None}
 use Rattle.mrc_instruction.specs.declared.operation.Operation.{Operation}
 use Rattle.mrc_instruction.specs.declared.operation.Operation.TheVariants.{MOV, PUSH, POP, XCHG, IN, OUT, XLATB, LEA, LDS, LES, LAHF, SAHF, PUSHF, POPF, ADD, ADC, INC, AAA, DAA, SUB, SBB, DEC, NEG, CMP, AAS, DAS, MUL, IMUL, AAM, DIV, IDIV, AAD, CBW, CWD, NOT, SHL, SHR, SAR, ROL, ROR, RCL, RCR, AND, TEST, OR, XOR, MOVSB, MOVSW, CMPSB, CMPSW, SCASB, SCASW, LODSB, LODSW, STOSB, STOSW, CALL, JMP, RET, JE, JL, JLE, JB, JBE, JP, JO, JS, JNE, JNL, JNLE, JNB, JNBE, JNP, JNO, JNS, LOOP, LOOPZ, LOOPNZ, JCXZ, INT, INT1, INT3, INTO, IRET, CLC, CMC, STC, CLD, STD, CLI, STI, HLT, WAIT, ESC, LOCK, NOP, SALC}
-use Rattle.mrc_instruction.specs.declared.operation.NumberedOperation.{NumberedOperation}
 
 -- rule 11.2: the operations in order
 abbrev pub operations : List Operation
@@ -119,5 +118,5 @@ operation_number NOP = 95
 operation_number SALC = 96
 
 -- the operation of a number, if there is one
-abbrev pub operation_numbered : ℕ → NumberedOperation
-operation_numbered n = cond (ltb n (length operations)) (NumberedOperation.Found (operation_at n)) NumberedOperation.None
+abbrev pub operation_numbered : ℕ → Option Operation
+operation_numbered n = cond (ltb n (length operations)) (Some (operation_at n)) None

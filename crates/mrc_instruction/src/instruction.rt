@@ -8,49 +8,36 @@ use crate::operation::Operation;
 use crate::register::Segment;
 
 // The destination stands before the source.
-#[derive(Clone, Copy)]
+#[derive(Clone, Copy, Debug, PartialEq, Eq)]
 pub enum OperandSet {
     None,
     Destination(Operand),
     DestinationAndSource(Operand, Operand),
 }
 
-#[derive(Clone, Copy)]
+#[derive(Clone, Copy, Debug, PartialEq, Eq)]
 pub enum Repeat {
     Equal,
     NotEqual,
 }
 
-// An optional repeat.
-#[derive(Clone, Copy)]
-pub enum Repeated {
-    None,
-    Some(Repeat),
-}
-
 // How far a call, a jump or a return goes: within its segment, or to another. All else is neither.
-#[derive(Clone, Copy)]
+#[derive(Clone, Copy, Debug, PartialEq, Eq)]
 pub enum Reach {
     Neither,
     Near,
     Far,
 }
 
-// An optional segment: that of the override before an operation which reads memory that no operand names.
-#[derive(Clone, Copy)]
-pub enum Kept {
-    None,
-    Some(Segment),
-}
-
 // What is a byte or two stands first, but for the last two, which few instructions have: in an answer each operand then begins a machine word.
-#[derive(Clone, Copy)]
+#[derive(Clone, Copy, Debug, PartialEq, Eq)]
 pub struct Instruction {
     pub reach: Reach,
-    pub repeat: Repeated,
+    pub repeat: Option<Repeat>,
     pub operation: Operation,
     pub operands: OperandSet,
-    pub kept: Kept,
+    // The segment of the override before an operation which reads memory that no operand names.
+    pub kept: Option<Segment>,
     // The displacement bytes behind its ModRM: 0, 1 or 2.
     pub written: u8,
 }
@@ -62,10 +49,10 @@ impl Instruction {
     {
         Self {
             reach: Reach::Neither,
-            repeat: Repeated::None,
+            repeat: None,
             operation,
             operands,
-            kept: Kept::None,
+            kept: None,
             written: 0,
         }
     }
@@ -74,75 +61,30 @@ impl Instruction {
     pub fn reaching(self, reach: Reach) -> Self
         ensures { result ≡ reached reach self }
     {
-        let repeat = self.repeat; // its repeat stays
-        let operation = self.operation;
-        let operands = self.operands;
-        let kept = self.kept;
-        let written = self.written;
-        Self {
-            reach,
-            repeat,
-            operation,
-            operands,
-            kept,
-            written,
-        }
+        Self { reach, ..self }
     }
 
     // The same instruction with a repeat, or without one.
-    pub fn repeated(self, repeat: Repeated) -> Self
+    pub fn repeated(self, repeat: Option<Repeat>) -> Self
         ensures { result ≡ repeated_by repeat self }
     {
-        let reach = self.reach; // how far it goes stays
-        let operation = self.operation;
-        let operands = self.operands;
-        let kept = self.kept;
-        let written = self.written;
-        Self {
-            reach,
-            repeat,
-            operation,
-            operands,
-            kept,
-            written,
-        }
+        Self { repeat, ..self }
     }
 
     // The same instruction on other operands.
     pub fn on(self, operands: OperandSet) -> Self
         ensures { result ≡ on_operands operands self }
     {
-        let reach = self.reach; // under an override too
-        let repeat = self.repeat;
-        let operation = self.operation;
-        let kept = self.kept;
-        let written = self.written; // under an override too
-        Self {
-            reach,
-            repeat,
-            operation,
-            operands,
-            kept,
-            written,
-        }
+        Self { operands, ..self }
     }
 
     // The same instruction, which keeps an override of a segment.
     pub fn keeping(self, segment: Segment) -> Self
         ensures { result ≡ keeping_in segment self }
     {
-        let reach = self.reach;
-        let repeat = self.repeat;
-        let operation = self.operation;
-        let operands = self.operands;
-        let written = self.written;
         Self {
-            reach,
-            repeat,
-            operation,
-            operands,
-            kept: Kept::Some(segment),
-            written,
+            kept: Some(segment),
+            ..self
         }
     }
 
@@ -150,18 +92,6 @@ impl Instruction {
     pub fn writing(self, written: u8) -> Self
         ensures { result ≡ wrote written self }
     {
-        let reach = self.reach;
-        let repeat = self.repeat;
-        let operation = self.operation;
-        let operands = self.operands;
-        let kept = self.kept; // what it keeps stays
-        Self {
-            reach,
-            repeat,
-            operation,
-            operands,
-            kept,
-            written,
-        }
+        Self { written, ..self }
     }
 }
