@@ -2,11 +2,11 @@
 -- Assumes nothing.
 use mathlib.Core.Path.{◌≡◌, refl, ap, ◌∙◌}
 use mathlib.Core.List.{List}
-use mathlib.Core.Option.{Option, none, some}
 use Prim.Native.Nat.{ℕ}
 use lib.ListN.{get_or, drop}
+use Rattle.std.specs.Prelude.{Option, Some, None}
 use Rattle.mrc_instruction.specs.declared.reading.Reading.TheVariants.{One}
-use Rattle.mrc_instruction.specs.declared.instruction.Kept.{Kept}
+use Rattle.mrc_instruction.specs.declared.register.Segment.{Segment}
 use Rattle.mrc_instruction.specs.Reader.{Bytes}
 use Rattle.mrc_rules.specs.declared.Answer.{Answer}
 use Rattle.mrc_rules.specs.Prefixes.{is_override, run_of, tail_of, first}
@@ -15,9 +15,9 @@ use Rattle.mrc_rules.specs.Kept.{kept_of}
 use Rattle.mrc_rules.proofs.Operands.{override_kept}
 use Rattle.mrc_c.specs.Record.{kept_code, record_of}
 
-none_kept : (o : Option ℕ) (opcode : ℕ) → kept_of One o opcode ≡ Kept.None
-none_kept none opcode = refl
-none_kept (some o) opcode = refl
+none_kept : (o : Option ℕ) (opcode : ℕ) → kept_of One o opcode ≡ None
+none_kept None opcode = refl
+none_kept (Some o) opcode = refl
 
 pub first_keeps_none : (s : List ℕ) (at budget : ℕ) → Bytes s → (record_of (decode_at One s at budget)).body.kept ≡ 0
 first_keeps_none s at budget h = go (decode_at One s at budget) refl

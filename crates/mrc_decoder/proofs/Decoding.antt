@@ -4,12 +4,12 @@ use mathlib.Core.Path.{◌≡◌, refl, sym, ◌∙◌, ap, ap₂, subst}
 use mathlib.Core.Logic.{⊎_elim}
 use mathlib.Core.Bool.{Bool, true, false, cond, ◌||◌}
 use mathlib.Core.List.{List, [], ◌∷◌}
-use mathlib.Core.Option.{some}
 use Prim.Native.Nat.{ℕ, suc, ◌+◌, ◌-◌, ◌^◌, ◌≤◌, ◌<◌}
 use native.Mathlib.Nat.{eq-or-lt_of_le}
 use native.Mathlib.Omega.{arith}
 use lib.ListN.{length, get_or, drop, length-drop}
 use borrow.Author.Tests.{le-leb, lt-leb, eq-eqb, ne_eqb}
+use Rattle.std.specs.Prelude.{Some}
 use Rattle.mrc_instruction.specs.declared.errors.Refusal.{Refusal}
 use Rattle.mrc_instruction.specs.declared.reading.Reading.{Reading}
 use Rattle.mrc_instruction.specs.declared.instruction.Reach.TheVariants.{Neither, Near, Far}
@@ -138,7 +138,7 @@ module _ (x : Reading) (s : List ℕ) (at n : ℕ) (h : at < length s) where
       → d ≡ behind_prefix x (get_or s at 0) i → d ≡ decode_at x s at n
   override {i} e z f q =
       q
-      ∙ ap (λ (t : Bool). cond t (under_override x (get_or s at 0) i) (with_repeat (repeat_of (some (get_or s at 0))) i))
+      ∙ ap (λ (t : Bool). cond t (under_override x (get_or s at 0) i) (with_repeat (repeat_of (Some (get_or s at 0))) i))
       (below (get_or s at 0) (says x (get_or s at 0) overrides e))
       ∙ ap (under_override x (get_or s at 0)) (f ∙ inside x s (at + 1) (n - 1) (omega arith))
       ∙ sym (lower z ∙ override_wraps x (n - 1) (get_or s at 0) (drop (at + 1) s) (says x (get_or s at 0) overrides e))
@@ -147,9 +147,9 @@ module _ (x : Reading) (s : List ℕ) (at n : ℕ) (h : at < length s) where
       → d ≡ behind_prefix x (get_or s at 0) i → d ≡ decode_at x s at n
   repeat {i} e z f q =
       q
-      ∙ ap (λ (t : Bool). cond t (under_override x (get_or s at 0) i) (with_repeat (repeat_of (some (get_or s at 0))) i))
+      ∙ ap (λ (t : Bool). cond t (under_override x (get_or s at 0) i) (with_repeat (repeat_of (Some (get_or s at 0))) i))
       (above (get_or s at 0) (says x (get_or s at 0) repeats e))
-      ∙ ap (with_repeat (repeat_of (some (get_or s at 0)))) (f ∙ inside x s (at + 1) (n - 1) (omega arith))
+      ∙ ap (with_repeat (repeat_of (Some (get_or s at 0)))) (f ∙ inside x s (at + 1) (n - 1) (omega arith))
       ∙ sym (lower z ∙ repeat_wraps x (n - 1) (get_or s at 0) (drop (at + 1) s) (says x (get_or s at 0) repeats e))
 
 -- the counts of an answer within the input can grow by one

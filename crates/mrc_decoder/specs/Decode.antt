@@ -1,7 +1,7 @@
 -- Internal: what the parts of the decoder owe each other.
 -- Answers with no prefix: what a tail came to, and what a form's function answers, counted from its opcode on.
-use Rattle.std.specs.Prelude.{ℕ, ◌-◌}
-use Rattle.mrc_instruction.specs.declared.instruction.Repeated.{Repeated}
+use Rattle.std.specs.Prelude.{ℕ, ◌-◌, None}
+use Rattle.mrc_instruction.specs.declared.instruction.Repeat.{Repeat}
 use Rattle.mrc_instruction.specs.Reader.{Outcome, more}
 use Rattle.mrc_instruction.specs.Read.{answered}
 use Rattle.mrc_rules.specs.declared.Answer.{Answer}
@@ -10,7 +10,7 @@ use Rattle.mrc_rules.specs.Prefixes.{made}
 
 -- a tail's own answer
 abbrev pub alone : Outcome Tail → Answer
-alone = answered (λ i n. Answer.Decoded (made i Repeated.None i.operands) n 0) (λ e n. Answer.Refused e n 0)
+alone = answered (λ i n. Answer.Decoded (made i None i.operands) n 0) (λ e n. Answer.Refused e n 0)
 
 -- behind the opcode, whose byte is taken too
 abbrev pub after_opcode : Outcome Tail → Answer

@@ -2,8 +2,8 @@
 -- Assumes nothing.
 use mathlib.Core.Path.{◌≡◌, refl}
 use mathlib.Core.List.{[], ◌∷◌, map}
-use mathlib.Core.Option.{some}
 use lib.ListN.{length}
+use Rattle.std.specs.Prelude.{Some}
 use Rattle.mrc_rules.specs.Forms.{with_modrm}
 use Rattle.mrc_rules.specs.Table.{rows, row_of}
 use Rattle.mrc_rules.specs.Prefixes.{override_segment, repeat_of}
@@ -11,7 +11,6 @@ use Rattle.mrc_rules.specs.Cases.{cases, easily_mistaken, second_reading, Held}
 use Rattle.mrc_instruction.specs.declared.reading.Reading.{Reading}
 use Rattle.mrc_instruction.specs.declared.register.Segment.TheVariants.{ES, CS, SS, DS}
 use Rattle.mrc_instruction.specs.declared.instruction.Repeat.{Repeat}
-use Rattle.mrc_instruction.specs.declared.instruction.Repeated.{Repeated}
 use Rattle.mrc_instruction.specs.Reader.{a_byte, a_word}
 
 pub table_whole : (x : Reading) → length (rows x) ≡ 256
@@ -33,5 +32,5 @@ second_reading_lem = refl
 pub overrides_named : map override_segment (0x26 ∷ 0x2E ∷ 0x36 ∷ 0x3E ∷ []) ≡ ES ∷ CS ∷ SS ∷ DS ∷ []
 overrides_named = refl
 
-pub repeats_named : map (λ b. repeat_of (some b)) (0xF2 ∷ 0xF3 ∷ []) ≡ Repeated.Some Repeat.NotEqual ∷ Repeated.Some Repeat.Equal ∷ []
+pub repeats_named : map (λ b. repeat_of (Some b)) (0xF2 ∷ 0xF3 ∷ []) ≡ Some Repeat.NotEqual ∷ Some Repeat.Equal ∷ []
 repeats_named = refl

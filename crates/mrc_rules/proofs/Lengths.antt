@@ -16,7 +16,7 @@ use Rattle.mrc_instruction.specs.declared.errors.Refusal.{Refusal}
 use Rattle.mrc_instruction.specs.Reader.{Outcome, got, stopped, taken_by, read_from}
 use Rattle.mrc_instruction.proofs.Sequence.{taken_more}
 use Rattle.mrc_rules.specs.declared.Answer.{Answer}
-use Rattle.mrc_rules.specs.Answer.{taken, prefixes}
+use Rattle.mrc_rules.specs.Answer.{decodes, refuses, taken, prefixes}
 use Rattle.mrc_rules.specs.Forms.{Tail}
 use Rattle.mrc_rules.specs.Prefixes.{run_of, tail_of}
 use Rattle.mrc_rules.specs.Decode.{Rules, tail, together, decode_by, decode_at_by, decode_at, rules}
@@ -96,7 +96,7 @@ module _ (R : Rules) (tail-short : (l : List ℕ) → taken_by (tail R l) ≤ 6)
   six_by b l = go (leb (length (run_of l)) b)
     where
       go : (t : Bool)
-          → let d = cond t (together R (run_of l) (tail R (tail_of l))) (Answer.Refused (Refusal.TooManyPrefixes (get_or (run_of l) b 0)) (b + 1) (b + 1)) in
+          → let d = cond t (together R (run_of l) (tail R (tail_of l))) (refuses (Refusal.TooManyPrefixes (get_or (run_of l) b 0)) (b + 1) (b + 1)) in
           taken d ≤ prefixes d + 6
       go true =
           let t = tail R (tail_of l) in
@@ -117,12 +117,12 @@ module _ (R : Rules) (tail-short : (l : List ℕ) → taken_by (tail R l) ≤ 6)
   Short : Answer → Type 0
   Short d = Success d → (prefixes d + 1 ≤ taken d) × (taken d ≤ prefixes d + 6)
 
-  pub length_rule_by : (s : List ℕ) (at b : ℕ) (i : Instruction) (n p : ℕ) → decode_at_by R s at b ≡ Answer.Decoded i n p → (p + 1 ≤ n) × (n ≤ p + 6)
+  pub length_rule_by : (s : List ℕ) (at b : ℕ) (i : Instruction) (n p : ℕ) → decode_at_by R s at b ≡ decodes i n p → (p + 1 ≤ n) × (n ≤ p + 6)
   unfolding Short
   length_rule_by s at b i n p e = subst Short e (at_position R Short s at b (length_by_lem b) absurd) tt
 
 -- under the rules of docs/RULES.md
-pub length_rule : (x : Reading) (s : List ℕ) (at b : ℕ) (i : Instruction) (n p : ℕ) → decode_at x s at b ≡ Answer.Decoded i n p
+pub length_rule : (x : Reading) (s : List ℕ) (at b : ℕ) (i : Instruction) (n p : ℕ) → decode_at x s at b ≡ decodes i n p
     → (p + 1 ≤ n) × (n ≤ p + 6)
 length_rule x = length_rule_by (rules x) (tail_six x)
 

@@ -5,21 +5,22 @@
 use mathlib.Core.Path.{◌≡◌, refl, sym, ap, subst, ◌∙◌}
 use mathlib.Core.Bool.{Bool, true, false, cond, ◌&&◌}
 use mathlib.Core.List.{List, [], ◌∷◌}
-use mathlib.Core.Option.{Option, none, some}
 use Prim.Native.Nat.{ℕ, ◌+◌, ◌-◌, ◌<◌}
 use native.Mathlib.Omega.{arith}
 use lib.Dec.{leb}
 use lib.ListN.{length, get_or, take, drop}
+use Rattle.std.specs.Prelude.{Ok, Err, Option, Some, None, Result}
 use Rattle.mrc_instruction.specs.declared.errors.Refusal.{Refusal}
 use Rattle.mrc_instruction.specs.declared.reading.Reading.{Reading}
 use Rattle.mrc_instruction.specs.declared.instruction.OperandSet.{OperandSet}
-use Rattle.mrc_instruction.specs.declared.instruction.Kept.{Kept}
+use Rattle.mrc_instruction.specs.declared.register.Segment.{Segment}
 use Rattle.mrc_instruction.specs.declared.instruction.Instruction.{Instruction}
 use Rattle.mrc_instruction.specs.Reader.{Bytes, Outcome, got, stopped, taken_by}
+use Rattle.mrc_rules.specs.Answer.{answer, decodes, refuses}
 use Rattle.mrc_rules.specs.declared.Answer.{Answer}
 use Rattle.mrc_rules.specs.Forms.{Tail}
-use Rattle.mrc_rules.specs.Prefixes.{run_of, tail_of, first, is_override, is_repeat, repeat_of, override_segment, reads, refuses, made, keeping, keeps, under}
-use Rattle.mrc_rules.specs.Decode.{tail, result_of, together, answer, decode_by, decode_at, rules}
+use Rattle.mrc_rules.specs.Prefixes.{run_of, tail_of, first, is_override, is_repeat, repeat_of, override_segment, made, keeping, keeps, under}
+use Rattle.mrc_rules.specs.Decode.{tail, result_of, together, decode_by, decode_at, rules}
 use Rattle.mrc_rules.specs.Operands.{byte_at, operands_of, in_segments, under_first}
 use Rattle.mrc_rules.specs.Operations.{operation_of}
 use Rattle.mrc_rules.specs.Reaches.{reach_of}
@@ -33,11 +34,11 @@ use Rattle.mrc_rules.proofs.Tails.{Comes, tail_comes}
 -- of what a tail came to
 pub record InPlace (x : Reading) (l : List ℕ) (i : Tail) (n : ℕ) : Type 0 where
   pub operands : i.operands ≡ operands_of x (take n l)
-  pub operation : operation_of l ≡ some i.operation
+  pub operation : operation_of l ≡ Some i.operation
   pub reach : reach_of l ≡ i.reach
   pub written : i.written ≡ written_of x (take n l)
   pub keeper : byte_at l 0 < 256 → keeps_at x (byte_at l 0) ≡ is_none i.operands && keeps x i.operation
-  pub nothing_kept : i.kept ≡ Kept.None
+  pub nothing_kept : i.kept ≡ None
 
 abbrev TailPlaced : Reading → List ℕ → Outcome Tail → Type 0
 TailPlaced x l (got i n) = InPlace x l i n
@@ -55,18 +56,21 @@ tail_placed x (opcode ∷ l) = go (tail (rules x) (opcode ∷ l)) (tail_comes x 
 -- of a decode's answer
 pub record Placed (x : Reading) (l : List ℕ) (i : Instruction) (n : ℕ) : Type 0 where
   pub operands : i.operands ≡ under_first (first is_override (run_of l)) (operands_of x (take n (tail_of l)))
-  pub operation : operation_of (tail_of l) ≡ some i.operation
+  pub operation : operation_of (tail_of l) ≡ Some i.operation
   pub reach : i.reach ≡ reach_of (tail_of l)
   pub written : i.written ≡ written_of x (take n (tail_of l))
   pub repeat : i.repeat ≡ repeat_of (first is_repeat (run_of l))
   pub kept : byte_at (tail_of l) 0 < 256 → i.kept ≡ kept_of x (first is_override (run_of l)) (byte_at (tail_of l) 0)
 
+abbrev ResultPlaced : Reading → List ℕ → Result Instruction Refusal → ℕ → Type 0
+ResultPlaced x l (Ok i) n = Placed x l i n
+ResultPlaced x l (Err e) n = Unit {0}
+
 abbrev AnswerPlaced : Reading → List ℕ → Answer → Type 0
-AnswerPlaced x l (Answer.Decoded i n p) = Placed x l i (n - p)
-AnswerPlaced x l (Answer.Refused e n p) = Unit {0}
+AnswerPlaced x l d = ResultPlaced x l d.result (d.taken - d.prefixes)
 
 -- under an override: where there are operands none is kept
-module _ (x : Reading) (l : List ℕ) (o : ℕ) (i : Tail) (k n p : ℕ) (h : InPlace x (tail_of l) i k) (c : n - p ≡ k) (f : first is_override (run_of l) ≡ some o) where
+module _ (x : Reading) (l : List ℕ) (o : ℕ) (i : Tail) (k n p : ℕ) (h : InPlace x (tail_of l) i k) (c : n - p ≡ k) (f : first is_override (run_of l) ≡ Some o) where
   abbrev Under : OperandSet → Type 0
   Under ops = AnswerPlaced x l (answer (under x o (repeat_of (first is_repeat (run_of l))) i ops) n p)
 
@@ -82,7 +86,7 @@ module _ (x : Reading) (l : List ℕ) (o : ℕ) (i : Tail) (k n p : ℕ) (h : In
   }
 
   kept_there : i.operands ≡ OperandSet.None → (t : Bool) → keeps x i.operation ≡ t
-      → AnswerPlaced x l (answer (cond t (reads (keeping i (repeat_of (first is_repeat (run_of l))) (override_segment o))) (refuses (Refusal.InvalidPrefix o))) n p)
+      → AnswerPlaced x l (answer (cond t (Ok (keeping i (repeat_of (first is_repeat (run_of l))) (override_segment o))) (Err (Refusal.InvalidPrefix o))) n p)
   kept_there e true t = record {
     operands = rw (f, c) (e ∙ ap (in_segments (override_segment o)) (sym e ∙ h.operands));
     operation = h.operation;
@@ -100,7 +104,7 @@ module _ (x : Reading) (l : List ℕ) (o : ℕ) (i : Tail) (k n p : ℕ) (h : In
 
 result_placed : (x : Reading) (l : List ℕ) (o : Option ℕ) (t : Outcome Tail) (n p : ℕ) → n - p ≡ taken_by t → first is_override (run_of l) ≡ o
     → TailPlaced x (tail_of l) t → AnswerPlaced x l (answer (result_of (rules x) o (first is_repeat (run_of l)) t) n p)
-result_placed x l none (got i k) n p c f h = record {
+result_placed x l None (got i k) n p c f h = record {
   operands = rw (f, c) h.operands;
   operation = h.operation;
   reach = sym h.reach;
@@ -108,15 +112,15 @@ result_placed x l none (got i k) n p c f h = record {
   repeat = refl;
   kept = λ b. rw f h.nothing_kept;
 }
-result_placed x l none (stopped e k) n p c f h = tt
-result_placed x l (some o) (got i k) n p c f h = under_placed x l o i k n p h c f i.operands refl
-result_placed x l (some o) (stopped e k) n p c f h = tt
+result_placed x l None (stopped e k) n p c f h = tt
+result_placed x l (Some o) (got i k) n p c f h = under_placed x l o i k n p h c f i.operands refl
+result_placed x l (Some o) (stopped e k) n p c f h = tt
 
 decode_placed : (x : Reading) (b : ℕ) (l : List ℕ) → AnswerPlaced x l (decode_by (rules x) b l)
 decode_placed x b l = go (leb (length (run_of l)) b)
   where
     go : (t : Bool)
-        → AnswerPlaced x l (cond t (together (rules x) (run_of l) (tail (rules x) (tail_of l))) (Answer.Refused (Refusal.TooManyPrefixes (get_or (run_of l) b 0)) (b + 1) (b + 1)))
+        → AnswerPlaced x l (cond t (together (rules x) (run_of l) (tail (rules x) (tail_of l))) (refuses (Refusal.TooManyPrefixes (get_or (run_of l) b 0)) (b + 1) (b + 1)))
     go true =
         result_placed x l (first is_override (run_of l)) (tail (rules x) (tail_of l)) (length (run_of l) + taken_by (tail (rules x) (tail_of l))) (length (run_of l))
         (omega arith)
@@ -127,30 +131,30 @@ decode_placed x b l = go (leb (length (run_of l)) b)
 at_placed : (x : Reading) (s : List ℕ) (at b : ℕ) → AnswerPlaced x (drop at s) (decode_at x s at b)
 at_placed x s at b = go (leb at (length s))
   where
-    go : (t : Bool) → AnswerPlaced x (drop at s) (cond t (decode_by (rules x) b (drop at s)) (Answer.Refused Refusal.OutsideInput 0 0))
+    go : (t : Bool) → AnswerPlaced x (drop at s) (cond t (decode_by (rules x) b (drop at s)) (refuses Refusal.OutsideInput 0 0))
     go true = decode_placed x b (drop at s)
     go false = tt
 
-pub destination_and_source : (x : Reading) (s : List ℕ) (at b : ℕ) (i : Instruction) (n p : ℕ) → decode_at x s at b ≡ Answer.Decoded i n p
+pub destination_and_source : (x : Reading) (s : List ℕ) (at b : ℕ) (i : Instruction) (n p : ℕ) → decode_at x s at b ≡ decodes i n p
     → i.operands ≡ under_first (first is_override (run_of (drop at s))) (operands_of x (take (n - p) (tail_of (drop at s))))
 destination_and_source x s at b i n p e = (subst (AnswerPlaced x (drop at s)) e (at_placed x s at b)).operands
 
-pub operation_named : (x : Reading) (s : List ℕ) (at b : ℕ) (i : Instruction) (n p : ℕ) → decode_at x s at b ≡ Answer.Decoded i n p
-    → operation_of (tail_of (drop at s)) ≡ some i.operation
+pub operation_named : (x : Reading) (s : List ℕ) (at b : ℕ) (i : Instruction) (n p : ℕ) → decode_at x s at b ≡ decodes i n p
+    → operation_of (tail_of (drop at s)) ≡ Some i.operation
 operation_named x s at b i n p e = (subst (AnswerPlaced x (drop at s)) e (at_placed x s at b)).operation
 
-pub near_or_far : (x : Reading) (s : List ℕ) (at b : ℕ) (i : Instruction) (n p : ℕ) → decode_at x s at b ≡ Answer.Decoded i n p → i.reach ≡ reach_of (tail_of (drop at s))
+pub near_or_far : (x : Reading) (s : List ℕ) (at b : ℕ) (i : Instruction) (n p : ℕ) → decode_at x s at b ≡ decodes i n p → i.reach ≡ reach_of (tail_of (drop at s))
 near_or_far x s at b i n p e = (subst (AnswerPlaced x (drop at s)) e (at_placed x s at b)).reach
 
-pub displacement_written : (x : Reading) (s : List ℕ) (at b : ℕ) (i : Instruction) (n p : ℕ) → decode_at x s at b ≡ Answer.Decoded i n p
+pub displacement_written : (x : Reading) (s : List ℕ) (at b : ℕ) (i : Instruction) (n p : ℕ) → decode_at x s at b ≡ decodes i n p
     → i.written ≡ written_of x (take (n - p) (tail_of (drop at s)))
 displacement_written x s at b i n p e = (subst (AnswerPlaced x (drop at s)) e (at_placed x s at b)).written
 
-pub first_repeat : (x : Reading) (s : List ℕ) (at b : ℕ) (i : Instruction) (n p : ℕ) → decode_at x s at b ≡ Answer.Decoded i n p
+pub first_repeat : (x : Reading) (s : List ℕ) (at b : ℕ) (i : Instruction) (n p : ℕ) → decode_at x s at b ≡ decodes i n p
     → i.repeat ≡ repeat_of (first is_repeat (run_of (drop at s)))
 first_repeat x s at b i n p e = (subst (AnswerPlaced x (drop at s)) e (at_placed x s at b)).repeat
 
-pub override_kept : (x : Reading) (s : List ℕ) (at b : ℕ) (i : Instruction) (n p : ℕ) → Bytes s → decode_at x s at b ≡ Answer.Decoded i n p
+pub override_kept : (x : Reading) (s : List ℕ) (at b : ℕ) (i : Instruction) (n p : ℕ) → Bytes s → decode_at x s at b ≡ decodes i n p
     → i.kept ≡ kept_of x (first is_override (run_of (drop at s))) (byte_at (tail_of (drop at s)) 0)
 override_kept x s at b i n p bytes e =
     (subst (AnswerPlaced x (drop at s)) e (at_placed x s at b)).kept (tail_byte (drop at s) (bytes_from s at bytes))

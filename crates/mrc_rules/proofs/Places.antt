@@ -5,11 +5,11 @@ use borrow.Author.Tests.{ne_eqb}
 use mathlib.Core.Path.{◌≡◌, refl, ap, sym, subst, ◌∙◌}
 use mathlib.Core.Bool.{Bool, true, false, cond, ◌&&◌}
 use mathlib.Core.List.{List, [], ◌∷◌, ◌++◌, append_assoc, append-nil}
-use mathlib.Core.Option.{some}
 use Prim.Native.Nat.{ℕ, zero, suc, ◌+◌, ◌/◌, ◌%◌, ◌<◌}
 use native.Mathlib.Omega.{arith}
 use lib.Dec.{eqb}
 use lib.ListN.{length, length-append}
+use Rattle.std.specs.Prelude.{Some, None}
 use Rattle.mrc_instruction.specs.declared.errors.Refusal.{Refusal}
 use Rattle.mrc_instruction.specs.declared.reading.Reading.{Reading}
 use Rattle.mrc_instruction.specs.declared.reading.Reading.TheVariants.{One, Two}
@@ -19,7 +19,7 @@ use Rattle.mrc_instruction.specs.declared.operand.Immediate.{Immediate}
 use Rattle.mrc_instruction.specs.declared.operand.Displacement.{Displacement}
 use Rattle.mrc_instruction.specs.declared.operand.Operand.{Operand}
 use Rattle.mrc_instruction.specs.declared.instruction.OperandSet.{OperandSet}
-use Rattle.mrc_instruction.specs.declared.instruction.Kept.{Kept}
+use Rattle.mrc_instruction.specs.declared.register.Segment.{Segment}
 use Rattle.mrc_instruction.specs.declared.mrrm.RegisterOrMemory.{RegisterOrMemory}
 use Rattle.mrc_instruction.specs.Errors.{number_of, byte_of}
 use Rattle.mrc_instruction.specs.Reader.{Reader, done, ◌>>=◌, a_byte, a_word}
@@ -121,12 +121,12 @@ module _ (c : Account) where
 module _ (reading : Reading) (c : Account) (bytes : List ℕ → ℕ) where
   pub record ReadWith (i : Tail) (l : List ℕ) : Type 0 where
     pub operands : i.operands ≡ operands_at reading l c.places
-    pub operation : (x : List ℕ) → name_at (l ++ x) c.name ≡ some i.operation
+    pub operation : (x : List ℕ) → name_at (l ++ x) c.name ≡ Some i.operation
     pub reach : (x : List ℕ) → reach_at (l ++ x) c.distance ≡ i.reach
     pub whole : (x : List ℕ) → length_by c.extra (l ++ x) ≡ length l
     pub told : (x : List ℕ) → verdict_by c.bar (l ++ x) ≡ read
     pub keeper : is_none i.operands && keeps reading i.operation ≡ c.keeper
-    pub nothing_kept : i.kept ≡ Kept.None
+    pub nothing_kept : i.kept ≡ None
     pub written : i.written ≡ bytes l
 
 -- with the displacement bytes between ModRM and immediate; and behind the ModRM, where they are not yet counted

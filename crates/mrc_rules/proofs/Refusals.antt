@@ -4,21 +4,21 @@
 use mathlib.Core.Path.{◌≡◌, refl, ap₂, ◌∙◌}
 use mathlib.Core.Bool.{Bool, true, false, cond, not, ◌&&◌}
 use mathlib.Core.List.{List, [], ◌∷◌}
-use mathlib.Core.Option.{Option, none, some}
 use Prim.Native.Nat.{ℕ, ◌+◌, ◌<◌}
 use borrow.Author.Tests.{leb-true, leb-false, lt-ltb, le-ltb}
 use lib.Dec.{leb, ltb}
 use lib.ListN.{length, get_or, drop}
+use Rattle.std.specs.Prelude.{Ok, Err, Option, Some, None}
 use Rattle.mrc_instruction.specs.declared.errors.Refusal.{Refusal}
 use Rattle.mrc_instruction.specs.declared.reading.Reading.{Reading}
 use Rattle.mrc_instruction.specs.declared.instruction.OperandSet.{OperandSet}
 use Rattle.mrc_instruction.specs.Values.{carrying}
 use Rattle.mrc_instruction.specs.Reader.{Bytes, Outcome, got, stopped, taken_by}
 use Rattle.mrc_rules.specs.declared.Answer.{Answer}
-use Rattle.mrc_rules.specs.Answer.{values_of}
+use Rattle.mrc_rules.specs.Answer.{answer, refuses, values_of}
 use Rattle.mrc_rules.specs.Forms.{Tail}
-use Rattle.mrc_rules.specs.Prefixes.{is_override, is_repeat, run_of, tail_of, first, repeat_of, override_segment, reads, refuses, keeping, keeps, under}
-use Rattle.mrc_rules.specs.Decode.{tail, result_of, together, answer, decode_by, decode_at, rules}
+use Rattle.mrc_rules.specs.Prefixes.{is_override, is_repeat, run_of, tail_of, first, repeat_of, override_segment, keeping, keeps, under}
+use Rattle.mrc_rules.specs.Decode.{tail, result_of, together, decode_by, decode_at, rules}
 use Rattle.mrc_rules.specs.Operands.{byte_at}
 use Rattle.mrc_rules.specs.Refusals.{verdict_of, taken_of, is_bare, under_prefixes, tabled}
 use Rattle.mrc_rules.proofs.Runs.{tail_none, bytes_from, tail_byte}
@@ -35,7 +35,7 @@ unfolding refuses_override
 under_values x o r i OperandSet.None n p = go (keeps x i.operation)
   where
     go : (t : Bool)
-        → values_of (answer (cond t (reads (keeping i (repeat_of r) (override_segment o))) (refuses (Refusal.InvalidPrefix o))) n p)
+        → values_of (answer (cond t (Ok (keeping i (repeat_of r) (override_segment o))) (Err (Refusal.InvalidPrefix o))) n p)
         ≡ cond (not t) (carrying 9 o n p) (carrying 0 0 n p)
     go true = refl
     go false = refl
@@ -62,10 +62,10 @@ result_values x o r l t p told bare = rw (told.verdict_is, told.taken_is) (go o 
   where
     go : (f : Option ℕ) (u : Outcome Tail) → Bare x l u → values_of (answer (result_of (rules x) f r u) (p + taken_by u) p)
         ≡ under_prefixes f (verdict u) (is_bare x (byte_at l 0)) (taken_by u) p
-    go none (got i n) h = refl
-    go none (stopped e n) h = refl
-    go (some f) (got i n) h = under_values x f r i i.operands (p + n) p ∙ rw h refl
-    go (some f) (stopped e n) h = refl
+    go None (got i n) h = refl
+    go None (stopped e n) h = refl
+    go (Some f) (got i n) h = under_values x f r i i.operands (p + n) p ∙ rw h refl
+    go (Some f) (stopped e n) h = refl
 
 -- within the budget
 list_values : (x : Reading) (b : ℕ) (l : List ℕ) → Bytes l
@@ -75,7 +75,7 @@ list_values : (x : Reading) (b : ℕ) (l : List ℕ) → Bytes l
 list_values x b l bytes = go (leb (length (run_of l)) b) refl
   where
     go : (t : Bool) → leb (length (run_of l)) b ≡ t
-        → values_of (cond t (together (rules x) (run_of l) (tail (rules x) (tail_of l))) (Answer.Refused (Refusal.TooManyPrefixes (get_or (run_of l) b 0)) (b + 1) (b + 1)))
+        → values_of (cond t (together (rules x) (run_of l) (tail (rules x) (tail_of l))) (refuses (Refusal.TooManyPrefixes (get_or (run_of l) b 0)) (b + 1) (b + 1)))
         ≡ cond (ltb b (length (run_of l))) (carrying 10 (get_or (run_of l) b 0) (b + 1) (b + 1))
         (under_prefixes (first is_override (run_of l)) (verdict_of x (tail_of l)) (is_bare x (byte_at (tail_of l) 0)) (taken_of x (tail_of l)) (length (run_of l)))
     go true e =
@@ -89,6 +89,6 @@ list_values x b l bytes = go (leb (length (run_of l)) b) refl
 pub refusal_table : (x : Reading) (s : List ℕ) (at b : ℕ) → Bytes s → values_of (decode_at x s at b) ≡ tabled x s at b
 refusal_table x s at b bytes = go (leb at (length s)) refl
   where
-    go : (t : Bool) → leb at (length s) ≡ t → values_of (cond t (decode_by (rules x) b (drop at s)) (Answer.Refused Refusal.OutsideInput 0 0)) ≡ tabled x s at b
+    go : (t : Bool) → leb at (length s) ≡ t → values_of (cond t (decode_by (rules x) b (drop at s)) (refuses Refusal.OutsideInput 0 0)) ≡ tabled x s at b
     go true e = rw (le-ltb (length s) at (leb-true at (length s) e)) (list_values x b (drop at s) (bytes_from s at bytes))
     go false e = rw (lt-ltb (length s) at (leb-false at (length s) e)) refl

@@ -4,11 +4,11 @@ use borrow.Author.Tests.{ne_eqb}
 use mathlib.Core.Path.{◌≡◌, refl, ap, ap₂, sym, ◌∙◌}
 use mathlib.Core.Bool.{Bool, false, cond}
 use mathlib.Core.List.{List, [], ◌∷◌, ◌++◌, map}
-use mathlib.Core.Option.{none, some}
 use Prim.Native.Nat.{ℕ, zero, suc, ◌+◌, ◌-◌, ◌<◌}
 use native.Mathlib.Omega.{arith}
 use lib.Dec.{eqb, ltb}
 use lib.ListN.{length, get_or, drop, length-append, length-take, length-drop}
+use Rattle.std.specs.Prelude.{Some, None}
 use Rattle.mrc_instruction.specs.declared.errors.Refusal.{Refusal}
 use Rattle.mrc_instruction.specs.declared.reading.Reading.{Reading}
 use Rattle.mrc_instruction.specs.declared.reading.Reading.TheVariants.{One, Two}
@@ -18,7 +18,7 @@ use Rattle.mrc_instruction.specs.declared.operand.OperandSize.TheVariants.{Byte,
 use Rattle.mrc_instruction.specs.declared.operand.Immediate.{Immediate}
 use Rattle.mrc_instruction.specs.declared.operand.Operand.{Operand}
 use Rattle.mrc_instruction.specs.declared.instruction.OperandSet.{OperandSet}
-use Rattle.mrc_instruction.specs.declared.instruction.Kept.{Kept}
+use Rattle.mrc_instruction.specs.declared.register.Segment.{Segment}
 use Rattle.mrc_instruction.specs.declared.instruction.Reach.{Reach}
 use Rattle.mrc_instruction.specs.declared.operation.Operation.{Operation}
 use Rattle.mrc_instruction.specs.declared.operation.Operation.TheVariants.{ADD, OR, ADC, SBB, AND, SUB, XOR, CMP, ROL, ROR, RCL, RCR, SHL, SHR, SAR, NOT, NEG, MUL, IMUL, DIV, IDIV, INC, DEC, CALL, JMP, PUSH, MOV, POP, ESC}
@@ -40,14 +40,14 @@ use Rattle.mrc_rules.proofs.Places.{no_keeper, Followed, followed_by, at_end, Sa
 
 -- a group's operation is the one that reg names in it
 abbrev Named : Mnemonic → (ℕ → Operation) → Type 0
-Named name f = (byte : ℕ) (l : List ℕ) → byte_at l 1 ≡ byte → name_at l name ≡ some (f byte)
+Named name f = (byte : ℕ) (l : List ℕ) → byte_at l 1 ≡ byte → name_at l name ≡ Some (f byte)
 
-in_list : (l : List Operation) (n : ℕ) (d : Operation) → n < length l → get_or (map some l) n none ≡ some (get_or l n d)
+in_list : (l : List Operation) (n : ℕ) (d : Operation) → n < length l → get_or (map Some l) n None ≡ Some (get_or l n d)
 in_list [] n d h = absurd (omega arith)
 in_list (x ∷ l) zero d h = refl
 in_list (x ∷ l) (suc n) d h = in_list l n d (omega arith)
 
-by_list : (l : List Operation) (d : Operation) → length l ≡ 8 → Named (by_reg (map some l)) (λ byte. get_or l (reg_field byte) d)
+by_list : (l : List Operation) (d : Operation) → length l ≡ 8 → Named (by_reg (map Some l)) (λ byte. get_or l (reg_field byte) d)
 by_list l d e byte x second = rw second (in_list l (reg_field byte) d (omega arith))
 
 the_one : (o : Operation) → Named (the o) (λ byte. o)
@@ -76,8 +76,8 @@ alone_whole reading size operand byte l s = behind_whole reading size operand by
 
 -- what is read where the last byte is: a ModRM with n bytes behind it, and with none
 module _ (reading : Reading) (q : Places) (there : no_places q ≡ false) (name : Mnemonic) (bar : Bar) (d : Distance) (size : OperandSize) (operand : Operand) (byte : ℕ)
-    (i : Tail) (named : (l : List ℕ) → byte_at l 1 ≡ byte → name_at l name ≡ some i.operation) (far : (l : List ℕ) → byte_at l 1 ≡ byte → reach_at l d ≡ i.reach)
-    (plainly : i.kept ≡ Kept.None) (uncounted : i.written ≡ 0) where
+    (i : Tail) (named : (l : List ℕ) → byte_at l 1 ≡ byte → name_at l name ≡ Some i.operation) (far : (l : List ℕ) → byte_at l 1 ≡ byte → reach_at l d ≡ i.reach)
+    (plainly : i.kept ≡ None) (uncounted : i.written ≡ 0) where
   read_behind_lem : (n : ℕ) (l : List ℕ) → Modrm reading size operand byte l → (y : List ℕ) → Followed (Says reading size operand byte) y → length y ≡ length l + n
       → i.operands ≡ operands_at reading y q → ((x : List ℕ) → verdict_by bar (y ++ x) ≡ read) → ReadBehind reading (distant d (account q name (modrm n) bar)) i y
   read_behind_lem n l s y k e h t =

@@ -4,12 +4,12 @@ use mathlib.Core.Path.{◌≡◌, refl, sym, ap, ap₂, subst}
 use mathlib.Core.Logic.{◌⊎◌, inl, inr}
 use mathlib.Core.Bool.{Bool, true, false, ◌||◌, cond}
 use mathlib.Core.List.{List, [], ◌∷◌, ◌++◌}
-use mathlib.Core.Option.{Option, none, some}
 use Prim.Native.Nat.{ℕ, suc, ◌≤◌}
 use native.Mathlib.Omega.{arith}
 use lib.ListN.{length}
 use lib.Dec.{eqb}
 use borrow.Author.Tests.{eqb-true}
+use Rattle.std.specs.Prelude.{Option, Some, None}
 use Rattle.mrc_rules.specs.Prefixes.{first, is_override, is_repeat, is_prefix}
 use Rattle.mrc_rules.specs.Striking.{AllPrefix, struck, first_only, remains}
 
@@ -52,20 +52,20 @@ kinds b e =
 
 -- the first of a kind is of the kind
 abbrev pub Is : (ℕ → Bool) → Option ℕ → Type 0
-Is kind none = Unit {0}
-Is kind (some b) = kind b ≡ true
+Is kind None = Unit {0}
+Is kind (Some b) = kind b ≡ true
 
 pub first_is : (kind : ℕ → Bool) (l : List ℕ) → Is kind (first kind l)
 first_is kind [] = tt
 first_is kind (b ∷ l) = go (kind b) refl (first_is kind l)
   where
-    go : (t : Bool) → kind b ≡ t → Is kind (first kind l) → Is kind (cond t (some b) (first kind l))
+    go : (t : Bool) → kind b ≡ t → Is kind (first kind l) → Is kind (cond t (Some b) (first kind l))
     go true e h = e
     go false e h = h
 
 abbrev pub listed : Option ℕ → List ℕ
-listed none = []
-listed (some b) = b ∷ []
+listed None = []
+listed (Some b) = b ∷ []
 
 -- Of bytes each of which is of one of two kinds, the first of each kind remains.
 module _ (f g : ℕ → Bool) where
@@ -101,25 +101,25 @@ module _ (f g : ℕ → Bool) where
 
   -- the two firsts, in either order, are found again, and are of the two kinds
   abbrev pub Only : Option ℕ → Option ℕ → Type 0
-  Only none none = Unit {0}
-  Only none (some b) = (f b ≡ false) × (g b ≡ true)
-  Only (some a) none = (f a ≡ true) × (g a ≡ false)
-  Only (some a) (some b) = ((f a ≡ true) × (g a ≡ false)) × ((f b ≡ false) × (g b ≡ true))
+  Only None None = Unit {0}
+  Only None (Some b) = (f b ≡ false) × (g b ≡ true)
+  Only (Some a) None = (f a ≡ true) × (g a ≡ false)
+  Only (Some a) (Some b) = ((f a ≡ true) × (g a ≡ false)) × ((f b ≡ false) × (g b ≡ true))
 
   abbrev pub Kept : Option ℕ → Option ℕ → List ℕ → Type 0
   Kept o r l = (first f l ≡ o) × (first g l ≡ r) × Each l
 
   pub kept : (o r : Option ℕ) → Only o r → Kept o r (listed o ++ listed r)
-  kept none none h = (refl, refl, tt)
-  kept none (some b) h = (simp h.0, simp h.1, (inr h, tt))
-  kept (some a) none h = (simp h.0, simp h.1, (inl h, tt))
-  kept (some a) (some b) h = (simp h.0.0, simp (h.0.1, h.1.1), (inl h.0, (inr h.1, tt)))
+  kept None None h = (refl, refl, tt)
+  kept None (Some b) h = (simp h.0, simp h.1, (inr h, tt))
+  kept (Some a) None h = (simp h.0, simp h.1, (inl h, tt))
+  kept (Some a) (Some b) h = (simp h.0.0, simp (h.0.1, h.1.1), (inl h.0, (inr h.1, tt)))
 
   pub kept_turned : (o r : Option ℕ) → Only o r → Kept o r (listed r ++ listed o)
-  kept_turned none none h = (refl, refl, tt)
-  kept_turned none (some b) h = (simp h.0, simp h.1, (inr h, tt))
-  kept_turned (some a) none h = (simp h.0, simp h.1, (inl h, tt))
-  kept_turned (some a) (some b) h = (simp (h.1.0, h.0.0), simp h.1.1, (inr h.1, (inl h.0, tt)))
+  kept_turned None None h = (refl, refl, tt)
+  kept_turned None (Some b) h = (simp h.0, simp h.1, (inr h, tt))
+  kept_turned (Some a) None h = (simp h.0, simp h.1, (inl h, tt))
+  kept_turned (Some a) (Some b) h = (simp (h.1.0, h.0.0), simp h.1.1, (inr h.1, (inl h.0, tt)))
 
 -- striking leaves no more than there was
 length-struck : (kind : ℕ → Bool) (l : List ℕ) → length (struck kind l) ≤ length l
@@ -154,7 +154,7 @@ pub only : (run : List ℕ) → Only is_override is_repeat (first is_override ru
 only run = go (first is_override run) (first is_repeat run) (first_is is_override run) (first_is is_repeat run)
   where
     go : (o r : Option ℕ) → Is is_override o → Is is_repeat r → Only is_override is_repeat o r
-    go none none h k = tt
-    go none (some b) h k = (repeat_no_override b k, k)
-    go (some a) none h k = (h, override_no_repeat a h)
-    go (some a) (some b) h k = ((h, override_no_repeat a h), (repeat_no_override b k, k))
+    go None None h k = tt
+    go None (Some b) h k = (repeat_no_override b k, k)
+    go (Some a) None h k = (h, override_no_repeat a h)
+    go (Some a) (Some b) h k = ((h, override_no_repeat a h), (repeat_no_override b k, k))

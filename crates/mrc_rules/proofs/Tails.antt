@@ -5,16 +5,16 @@ use mathlib.Core.Path.{◌≡◌, refl, ap, sym, subst, ◌∙◌}
 use mathlib.Core.Logic.{◌⊎◌, inl, inr, ⊎_elim}
 use mathlib.Core.Bool.{Bool, true, false, cond, ◌&&◌}
 use mathlib.Core.List.{List, [], ◌∷◌, ◌++◌}
-use mathlib.Core.Option.{some}
 use Prim.Native.Nat.{ℕ, suc, ◌≤◌, ◌<◌}
 use native.Mathlib.Omega.{arith}
 use borrow.Author.Tests.{lt-ltb, le-ltb}
 use lib.Dec.{eqb, ltb}
 use lib.ListN.{length, get_or, take, drop, take-append-drop}
 use lib.Seq.{length-take-le}
+use Rattle.std.specs.Prelude.{Some, None}
 use Rattle.mrc_instruction.specs.declared.errors.Refusal.{Refusal}
 use Rattle.mrc_instruction.specs.declared.reading.Reading.{Reading}
-use Rattle.mrc_instruction.specs.declared.instruction.Kept.{Kept}
+use Rattle.mrc_instruction.specs.declared.register.Segment.{Segment}
 use Rattle.mrc_instruction.specs.Errors.{number_of, byte_of}
 use Rattle.mrc_instruction.specs.Reader.{Outcome, got, stopped, taken_by, more, read_from}
 use Rattle.mrc_instruction.proofs.Sequence.{taken_le}
@@ -44,8 +44,8 @@ pub record Reads (x : Reading) (l : List ℕ) (i : Tail) (n : ℕ) : Type 0 wher
   pub operands : i.operands ≡ operands_of x (take n l)
   pub bare : no_places (get_or (places x) (byte_at l 0) nothing) ≡ is_none i.operands
   pub keeper : byte_at l 0 < 256 → keeps_at x (byte_at l 0) ≡ is_none i.operands && keeps x i.operation
-  pub nothing_kept : i.kept ≡ Kept.None
-  pub operation : operation_of l ≡ some i.operation
+  pub nothing_kept : i.kept ≡ None
+  pub operation : operation_of l ≡ Some i.operation
   pub reach : reach_of l ≡ i.reach
   pub written : i.written ≡ written_of x (take n l)
   pub whole : whole_length x l ≡ n

@@ -1,6 +1,5 @@
 -- Rule 6.2: which operation an instruction's bytes name: a second account of operations beside the rows, by the first byte and, in a group, by reg.
-use Rattle.std.specs.Prelude.{ℕ, List, [], ◌∷◌, ◌++◌, get_or}
-use Rattle.std.proofs.Math.Option.{Option, none, some}
+use Rattle.std.specs.Prelude.{ℕ, List, [], ◌∷◌, ◌++◌, get_or, Option, Some, None}
 use Rattle.mrc_instruction.specs.declared.operation.Operation.{Operation}
 use Rattle.mrc_instruction.specs.declared.operation.Operation.TheVariants.{AAA, AAD, AAM, AAS, ADC, ADD, AND, CALL, CBW, CLC, CLD, CLI, CMC, CMP, CMPSB, CMPSW, CWD, DAA, DAS, DEC, DIV, ESC, HLT, IDIV, IMUL, IN, INC, INT, INT1, INT3, INTO, IRET, JB, JBE, JCXZ, JE, JL, JLE, JMP, JNB, JNBE, JNE, JNL, JNLE, JNO, JNP, JNS, JO, JP, JS, LAHF, LDS, LEA, LES, LOCK, LODSB, LODSW, LOOP, LOOPNZ, LOOPZ, MOV, MOVSB, MOVSW, MUL, NEG, NOP, NOT, OR, OUT, POP, POPF, PUSH, PUSHF, RCL, RCR, RET, ROL, ROR, SAHF, SALC, SAR, SBB, SCASB, SCASW, SHL, SHR, STC, STD, STI, STOSB, STOSW, SUB, TEST, WAIT, XCHG, XLATB, XOR}
 use Rattle.mrc_rules.specs.Operands.{byte_at, reg_at}
@@ -14,16 +13,16 @@ pub data Mnemonic : Type 0 where
 
 -- the groups: of 80 to 83; of C0, C1 and D0 to D3; of F6 and F7, where reg 1 names none; of FE and FF
 abbrev pub arithmetic : List (Option Operation)
-arithmetic = some ADD ∷ some OR ∷ some ADC ∷ some SBB ∷ some AND ∷ some SUB ∷ some XOR ∷ some CMP ∷ []
+arithmetic = Some ADD ∷ Some OR ∷ Some ADC ∷ Some SBB ∷ Some AND ∷ Some SUB ∷ Some XOR ∷ Some CMP ∷ []
 
 abbrev pub shifts : List (Option Operation)
-shifts = some ROL ∷ some ROR ∷ some RCL ∷ some RCR ∷ some SHL ∷ some SHR ∷ some SHL ∷ some SAR ∷ []
+shifts = Some ROL ∷ Some ROR ∷ Some RCL ∷ Some RCR ∷ Some SHL ∷ Some SHR ∷ Some SHL ∷ Some SAR ∷ []
 
 abbrev pub group_f6 : List (Option Operation)
-group_f6 = some TEST ∷ none ∷ some NOT ∷ some NEG ∷ some MUL ∷ some IMUL ∷ some DIV ∷ some IDIV ∷ []
+group_f6 = Some TEST ∷ None ∷ Some NOT ∷ Some NEG ∷ Some MUL ∷ Some IMUL ∷ Some DIV ∷ Some IDIV ∷ []
 
 abbrev pub group_fe : List (Option Operation)
-group_fe = some INC ∷ some DEC ∷ some CALL ∷ some CALL ∷ some JMP ∷ some JMP ∷ some PUSH ∷ some PUSH ∷ []
+group_fe = Some INC ∷ Some DEC ∷ Some CALL ∷ Some CALL ∷ Some JMP ∷ Some JMP ∷ Some PUSH ∷ Some PUSH ∷ []
 
 unfoldable pub mnemonics : List Mnemonic
 mnemonics =
@@ -62,9 +61,9 @@ mnemonics =
 
 -- the operation that an instruction's bytes name, from the opcode on
 abbrev pub name_at : List ℕ → Mnemonic → Option Operation
-name_at l nothing = none
-name_at l (the op) = some op
-name_at l (by_reg ops) = get_or ops (reg_at l) none
+name_at l nothing = None
+name_at l (the op) = Some op
+name_at l (by_reg ops) = get_or ops (reg_at l) None
 
 abbrev pub operation_of : List ℕ → Option Operation
 operation_of l = name_at l (get_or mnemonics (byte_at l 0) nothing)

@@ -1,6 +1,5 @@
 -- Section 7: the prefix bytes, the whole run at the front, its first override and first repeat, the tail behind it, and what an override does.
-use Rattle.std.specs.Prelude.{ℕ, ◌/◌, ◌%◌, Bool, true, false, cond, ◌||◌, ◌&&◌, List, [], ◌∷◌, eqb}
-use Rattle.std.proofs.Math.Option.{Option, none, some}
+use Rattle.std.specs.Prelude.{ℕ, ◌/◌, ◌%◌, Bool, true, false, cond, ◌||◌, ◌&&◌, List, [], ◌∷◌, eqb, Option, Some, None, Result, Ok, Err}
 use Rattle.mrc_instruction.specs.declared.errors.Refusal.{Refusal}
 use Rattle.mrc_instruction.specs.declared.reading.Reading.{Reading}
 use Rattle.mrc_instruction.specs.declared.reading.Reading.TheVariants.{One, Two}
@@ -8,7 +7,6 @@ use Rattle.mrc_instruction.specs.declared.register.Segment.{Segment}
 use Rattle.mrc_instruction.specs.declared.operand.Operand.{Operand}
 use Rattle.mrc_instruction.specs.declared.instruction.OperandSet.{OperandSet}
 use Rattle.mrc_instruction.specs.declared.instruction.Repeat.{Repeat}
-use Rattle.mrc_instruction.specs.declared.instruction.Repeated.{Repeated}
 use Rattle.mrc_instruction.specs.declared.instruction.Instruction.{Instruction}
 use Rattle.mrc_instruction.specs.declared.operation.Operation.{Operation}
 use Rattle.mrc_instruction.specs.declared.operation.Operation.TheVariants.{MOVSB, MOVSW, CMPSB, CMPSW, LODSB, LODSW, XLATB}
@@ -28,9 +26,9 @@ override_segment b = segment_of (b / 8 % 4)
 abbrev pub is_repeat : ℕ → Bool
 is_repeat b = eqb b 0xF2 || eqb b 0xF3
 
-abbrev pub repeat_of : Option ℕ → Repeated
-repeat_of none = Repeated.None
-repeat_of (some b) = cond (eqb b 0xF2) (Repeated.Some Repeat.NotEqual) (Repeated.Some Repeat.Equal)
+abbrev pub repeat_of : Option ℕ → Option Repeat
+repeat_of None = None
+repeat_of (Some b) = cond (eqb b 0xF2) (Some Repeat.NotEqual) (Some Repeat.Equal)
 
 abbrev pub is_prefix : ℕ → Bool
 is_prefix b = is_override b || is_repeat b
@@ -46,8 +44,8 @@ tail_of (b ∷ l) = cond (is_prefix b) (tail_of l) (b ∷ l)
 
 -- rule 7.5: the first of a kind
 abbrev pub first : (ℕ → Bool) → List ℕ → Option ℕ
-first kind [] = none
-first kind (b ∷ l) = cond (kind b) (some b) (first kind l)
+first kind [] = None
+first kind (b ∷ l) = cond (kind b) (Some b) (first kind l)
 
 -- rule 7.6: memory is in the override's segment, and nothing else changes
 abbrev pub in_segment : Segment → Operand → Operand
@@ -59,17 +57,12 @@ in_segment s (Operand.Immediate i) = Operand.Immediate i
 in_segment s (Operand.Displacement d) = Operand.Displacement d
 in_segment s (Operand.SegmentAndOffset a) = Operand.SegmentAndOffset a
 
--- the instruction or the refusal, the counts aside
-pub data Result : Type 0 where
-  reads : Instruction → Result
-  refuses : Refusal → Result
-
 -- the tail's instruction with a repeat and operands
-abbrev pub made : Tail → Repeated → OperandSet → Instruction
+abbrev pub made : Tail → Option Repeat → OperandSet → Instruction
 made i repeat operands = repeated_by repeat (on_operands operands i)
 
 -- the same with a repeat and an override that it keeps
-abbrev pub keeping : Tail → Repeated → Segment → Instruction
+abbrev pub keeping : Tail → Option Repeat → Segment → Instruction
 keeping i repeat s = repeated_by repeat (keeping_in s i)
 
 -- rule 7.11: the operations that read memory which no operand names
@@ -89,8 +82,8 @@ abbrev pub keeps : Reading → Operation → Bool
 keeps x op = among keepers op && manual x
 
 -- the tail's instruction, which has these operands, under the override o: rules 7.6, 7.7 and 7.11
-abbrev pub under : Reading → ℕ → Repeated → Tail → OperandSet → Result
-under x o r i OperandSet.None = cond (keeps x i.operation) (reads (keeping i r (override_segment o))) (refuses (Refusal.InvalidPrefix o))
-under x o r i (OperandSet.Destination d) = reads (made i r (OperandSet.Destination (in_segment (override_segment o) d)))
+abbrev pub under : Reading → ℕ → Option Repeat → Tail → OperandSet → Result Instruction Refusal
+under x o r i OperandSet.None = cond (keeps x i.operation) (Ok (keeping i r (override_segment o))) (Err (Refusal.InvalidPrefix o))
+under x o r i (OperandSet.Destination d) = Ok (made i r (OperandSet.Destination (in_segment (override_segment o) d)))
 under x o r i (OperandSet.DestinationAndSource d s) =
-    reads (made i r (OperandSet.DestinationAndSource (in_segment (override_segment o) d) (in_segment (override_segment o) s)))
+    Ok (made i r (OperandSet.DestinationAndSource (in_segment (override_segment o) d) (in_segment (override_segment o) s)))

@@ -1,7 +1,6 @@
 -- Rules 6.2 and 9.1: when a decode refuses and when it answers an instruction, with which number, byte and counts, by the bytes alone: the run of
 -- prefixes, the first byte behind it, the reg of the byte behind that, and where the input ends. A second account of refusals beside the forms.
-use Rattle.std.specs.Prelude.{ℕ, ◌+◌, min, Bool, true, false, cond, not, ◌||◌, ◌&&◌, List, [], ◌∷◌, eqb, leb, ltb, length, get_or, drop}
-use Rattle.std.proofs.Math.Option.{Option, none, some}
+use Rattle.std.specs.Prelude.{ℕ, ◌+◌, min, Bool, true, false, cond, not, ◌||◌, ◌&&◌, List, [], ◌∷◌, eqb, leb, ltb, length, get_or, drop, Option, Some, None}
 use Rattle.mrc_instruction.specs.declared.reading.Reading.{Reading}
 use Rattle.mrc_instruction.specs.declared.reading.Reading.TheVariants.{One, Two}
 use Rattle.mrc_instruction.specs.Values.{Values, carrying}
@@ -63,10 +62,10 @@ is_bare x opcode = no_places (get_or (places x) opcode nothing) && not (keeps_at
 
 -- behind p prefixes, under the first override, if any: number 9 with the override where the tail is refused or is bare
 abbrev pub under_prefixes : Option ℕ → Verdict → Bool → ℕ → ℕ → Values
-under_prefixes none read bare n p = carrying 0 0 (p + n) p
-under_prefixes none (refused number byte) bare n p = carrying number byte (p + n) p
-under_prefixes (some o) read bare n p = cond bare (carrying 9 o (p + n) p) (carrying 0 0 (p + n) p)
-under_prefixes (some o) (refused number byte) bare n p = carrying 9 o (p + n) p
+under_prefixes None read bare n p = carrying 0 0 (p + n) p
+under_prefixes None (refused number byte) bare n p = carrying number byte (p + n) p
+under_prefixes (Some o) read bare n p = cond bare (carrying 9 o (p + n) p) (carrying 0 0 (p + n) p)
+under_prefixes (Some o) (refused number byte) bare n p = carrying 9 o (p + n) p
 
 -- at a position, under a budget: 11 first, then 10, then as the bytes are read
 abbrev pub tabled : Reading → List ℕ → ℕ → ℕ → Values
