@@ -9,16 +9,16 @@ ghost use Rattle.mrc_directed.specs.Common.{register_or_memory_and_register, reg
 
 use mrc_forms::answers::decoded;
 use mrc_forms::groups::immediate_operation;
-use mrc_forms::traits::{ImmediateRead, read_immediate};
-use mrc_instruction::instruction::OperandSet;
-use mrc_instruction::mrrm::reg_field;
+use mrc_forms::traits::read_immediate;
+use mrc_instruction::instruction::{Instruction, OperandSet};
+use mrc_instruction::mrrm::{NamedOperand, reg_field};
 use mrc_instruction::operand::{Operand, OperandSize};
 use mrc_instruction::operation::Operation;
-use mrc_instruction::register::{RegisterEncoding, Segment, SegmentField, SizedRegisterEncoding};
-use mrc_rules::Answer;
+use mrc_instruction::read::{Read, Stop, counted_from};
+use mrc_instruction::register::{RegisterEncoding, Segment, SizedRegisterEncoding};
 
 // Which operand is the destination: the register or segment that reg names, or the register or memory.
-#[derive(Clone, Copy)]
+#[derive(Clone, Copy, Debug, PartialEq, Eq)]
 pub enum Direction {
     RegFirst,
     RegMemFirst,
@@ -29,54 +29,38 @@ pub fn register_or_memory_and_register(
     operation: Operation,
     direction: Direction,
     size: OperandSize,
-    reg_mem: Operand,
-    byte: u8,
+    reg_mem: NamedOperand,
     at: usize,
-) -> Answer
-    ensures { result ≡ read_behind (register_or_memory_and_register direction operation) size reg_mem byte at [] }
+) -> Read<Instruction>
+    ensures { result ≡ read_behind (register_or_memory_and_register direction operation) size reg_mem.operand reg_mem.byte at [] }
 {
-    let register = RegisterEncoding::from_low_bits(byte / 8);
+    let register = RegisterEncoding::from_low_bits(reg_mem.byte / 8);
     let reg = Operand::Register(SizedRegisterEncoding(register, size));
-    match direction {
-        Direction::RegFirst => {
-            let operands = OperandSet::DestinationAndSource(reg, reg_mem);
-            return decoded(operation, operands, at);
-        }
-        Direction::RegMemFirst => {
-            let operands = OperandSet::DestinationAndSource(reg_mem, reg);
-            return decoded(operation, operands, at);
-        }
-    }
+    let operands = match direction {
+        Direction::RegFirst => OperandSet::DestinationAndSource(reg, reg_mem.operand),
+        Direction::RegMemFirst => OperandSet::DestinationAndSource(reg_mem.operand, reg),
+    };
+    Ok(decoded(operation, operands, at))
 }
 
 // 1 0 0 0 1 1 d 0 | mod reg r/m
 pub fn register_or_memory_and_segment(
     direction: Direction,
-    reg_mem: Operand,
-    byte: u8,
+    reg_mem: NamedOperand,
     at: usize,
-) -> Answer
-    ensures { result ≡ read_behind (register_or_memory_and_segment direction) OperandSize.Word reg_mem byte at [] }
+) -> Read<Instruction>
+    ensures { result ≡ read_behind (register_or_memory_and_segment direction) OperandSize.Word reg_mem.operand reg_mem.byte at [] }
 {
-    match Segment::try_from_encoding(reg_field(byte)) {
-        SegmentField::Found(segment) => {
+    match Segment::try_from(reg_field(reg_mem.byte)) {
+        Ok(segment) => {
             let seg = Operand::Segment(segment);
-            match direction {
-                Direction::RegFirst => {
-                    let operands = OperandSet::DestinationAndSource(seg, reg_mem);
-                    return decoded(Operation::MOV, operands, at);
-                }
-                Direction::RegMemFirst => {
-                    let operands = OperandSet::DestinationAndSource(reg_mem, seg);
-                    return decoded(Operation::MOV, operands, at);
-                }
-            }
+            let operands = match direction {
+                Direction::RegFirst => OperandSet::DestinationAndSource(seg, reg_mem.operand),
+                Direction::RegMemFirst => OperandSet::DestinationAndSource(reg_mem.operand, seg),
+            };
+            Ok(decoded(Operation::MOV, operands, at))
         }
-        SegmentField::Refused(e) => return Answer::Refused {
-            refusal: e,
-            taken: at,
-            prefixes: 0,
-        },
+        Err(refusal) => Err(Stop { refusal, taken: at }),
     }
 }
 
@@ -84,47 +68,32 @@ pub fn register_or_memory_and_segment(
 pub fn immediate_to_register_or_memory(
     group: u8,
     size: OperandSize,
-    destination: Operand,
-    byte: u8,
+    destination: NamedOperand,
     s: &[u8],
     at: usize,
-) -> Answer
-    ensures { result ≡ read_behind (immediate_to_register_or_memory group) size destination byte at (drop at s.now) }
+) -> Read<Instruction>
+    ensures { result ≡ read_behind (immediate_to_register_or_memory group) size destination.operand destination.byte at (drop at s.now) }
 {
-    match read_immediate(size, s, at) {
-        ImmediateRead::Got(immediate, n) => {
-            let source = Operand::Immediate(immediate);
-            let operation = immediate_operation(group, reg_field(byte));
-            let operands = OperandSet::DestinationAndSource(destination, source);
-            return decoded(operation, operands, at + n);
-        }
-        ImmediateRead::Refused(e, n) => return Answer::Refused {
-            refusal: e,
-            taken: at + n,
-            prefixes: 0,
-        },
-    }
+    let immediate = counted_from(at, read_immediate(size, s, at))?;
+    let source = Operand::Immediate(immediate.value);
+    let operation = immediate_operation(group, reg_field(destination.byte));
+    let operands = OperandSet::DestinationAndSource(destination.operand, source);
+    Ok(decoded(operation, operands, immediate.taken))
 }
 
 // x x x x x x x w | data | data if w = 1
-pub fn immediate_to_accumulator(operation: Operation, opcode: u8, s: &[u8], at: usize) -> Answer
+pub fn immediate_to_accumulator(
+    operation: Operation,
+    opcode: u8,
+    s: &[u8],
+    at: usize,
+) -> Read<Instruction>
     ensures { result ≡ read_by opcode (immediate_to_accumulator operation (size_by opcode)) at (drop at s.now) }
 {
     let size = OperandSize::from_low_bit(opcode);
-    match read_immediate(size, s, at) {
-        ImmediateRead::Got(immediate, n) => {
-            let accumulator = Operand::Register(SizedRegisterEncoding(
-                RegisterEncoding::AlAx,
-                size,
-            ));
-            let source = Operand::Immediate(immediate);
-            let operands = OperandSet::DestinationAndSource(accumulator, source);
-            return decoded(operation, operands, at + n);
-        }
-        ImmediateRead::Refused(e, n) => return Answer::Refused {
-            refusal: e,
-            taken: at + n,
-            prefixes: 0,
-        },
-    }
+    let immediate = counted_from(at, read_immediate(size, s, at))?;
+    let accumulator = Operand::Register(SizedRegisterEncoding(RegisterEncoding::AlAx, size));
+    let source = Operand::Immediate(immediate.value);
+    let operands = OperandSet::DestinationAndSource(accumulator, source);
+    Ok(decoded(operation, operands, immediate.taken))
 }

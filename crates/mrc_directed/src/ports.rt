@@ -5,77 +5,55 @@ ghost use Rattle.mrc_forms.specs.Answers.{read_by};
 ghost use Rattle.mrc_instruction.specs.Operand.{size_by};
 
 use mrc_forms::answers::decoded;
-use mrc_forms::traits::{ImmediateRead, read_immediate};
-use mrc_instruction::instruction::OperandSet;
+use mrc_forms::traits::read_immediate;
+use mrc_instruction::instruction::{Instruction, OperandSet};
 use mrc_instruction::operand::{Operand, OperandSize};
 use mrc_instruction::operation::Operation;
+use mrc_instruction::read::{Read, counted_from};
 use mrc_instruction::register::{RegisterEncoding, SizedRegisterEncoding};
-use mrc_rules::Answer;
 
 // EC and ED: IN of the accumulator and DX.
-pub fn in_dx(opcode: u8, at: usize) -> Answer
+pub fn in_dx(opcode: u8, at: usize) -> Read<Instruction>
     ensures { result ≡ read_by opcode (in_dx (size_by opcode)) at [] }
 {
     let size = OperandSize::from_low_bit(opcode);
     let accumulator = Operand::Register(SizedRegisterEncoding(RegisterEncoding::AlAx, size));
     let dx = Operand::Register(SizedRegisterEncoding(RegisterEncoding::DlDx, OperandSize::Word));
     let operands = OperandSet::DestinationAndSource(accumulator, dx);
-    decoded(Operation::IN, operands, at)
+    Ok(decoded(Operation::IN, operands, at))
 }
 
 // EE and EF: OUT of DX and the accumulator.
-pub fn out_dx(opcode: u8, at: usize) -> Answer
+pub fn out_dx(opcode: u8, at: usize) -> Read<Instruction>
     ensures { result ≡ read_by opcode (out_dx (size_by opcode)) at [] }
 {
     let size = OperandSize::from_low_bit(opcode);
     let accumulator = Operand::Register(SizedRegisterEncoding(RegisterEncoding::AlAx, size));
     let dx = Operand::Register(SizedRegisterEncoding(RegisterEncoding::DlDx, OperandSize::Word));
     let operands = OperandSet::DestinationAndSource(dx, accumulator);
-    decoded(Operation::OUT, operands, at)
+    Ok(decoded(Operation::OUT, operands, at))
 }
 
 // E4 and E5: IN of the accumulator and a port.
-pub fn in_port(opcode: u8, s: &[u8], at: usize) -> Answer
+pub fn in_port(opcode: u8, s: &[u8], at: usize) -> Read<Instruction>
     ensures { result ≡ read_by opcode (in_port (size_by opcode)) at (drop at s.now) }
 {
     let size = OperandSize::from_low_bit(opcode);
-    match read_immediate(OperandSize::Byte, s, at) {
-        ImmediateRead::Got(immediate, n) => {
-            let accumulator = Operand::Register(SizedRegisterEncoding(
-                RegisterEncoding::AlAx,
-                size,
-            ));
-            let port = Operand::Immediate(immediate);
-            let operands = OperandSet::DestinationAndSource(accumulator, port);
-            return decoded(Operation::IN, operands, at + n);
-        }
-        ImmediateRead::Refused(e, n) => return Answer::Refused {
-            refusal: e,
-            taken: at + n,
-            prefixes: 0,
-        },
-    }
+    let immediate = counted_from(at, read_immediate(OperandSize::Byte, s, at))?;
+    let accumulator = Operand::Register(SizedRegisterEncoding(RegisterEncoding::AlAx, size));
+    let port = Operand::Immediate(immediate.value);
+    let operands = OperandSet::DestinationAndSource(accumulator, port);
+    Ok(decoded(Operation::IN, operands, immediate.taken))
 }
 
 // E6 and E7: OUT of a port and the accumulator.
-pub fn out_port(opcode: u8, s: &[u8], at: usize) -> Answer
+pub fn out_port(opcode: u8, s: &[u8], at: usize) -> Read<Instruction>
     ensures { result ≡ read_by opcode (out_port (size_by opcode)) at (drop at s.now) }
 {
     let size = OperandSize::from_low_bit(opcode);
-    match read_immediate(OperandSize::Byte, s, at) {
-        ImmediateRead::Got(immediate, n) => {
-            let accumulator = Operand::Register(SizedRegisterEncoding(
-                RegisterEncoding::AlAx,
-                size,
-            ));
-            let port = Operand::Immediate(immediate);
-            let operands = OperandSet::DestinationAndSource(port, accumulator);
-            return decoded(Operation::OUT, operands, at + n);
-        }
-        ImmediateRead::Refused(e, n) => return Answer::Refused {
-            refusal: e,
-            taken: at + n,
-            prefixes: 0,
-        },
-    }
+    let immediate = counted_from(at, read_immediate(OperandSize::Byte, s, at))?;
+    let accumulator = Operand::Register(SizedRegisterEncoding(RegisterEncoding::AlAx, size));
+    let port = Operand::Immediate(immediate.value);
+    let operands = OperandSet::DestinationAndSource(port, accumulator);
+    Ok(decoded(Operation::OUT, operands, immediate.taken))
 }

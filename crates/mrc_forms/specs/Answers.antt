@@ -1,51 +1,54 @@
 -- Internal: what the forms owe the decoder.
 -- What a form's function answers: what its row reads from the position behind the opcode on, or, where the form has a ModRM, what is read behind
--- that. It has no prefix, and counts its bytes from the front of the slice: they end at the position that it says to have taken.
-use Rattle.std.specs.Prelude.{ℕ, ◌+◌, ◌-◌, List}
+-- that. It counts its bytes from the front of the slice: they end at the position that it says to have taken.
+use Rattle.std.specs.Prelude.{ℕ, ◌-◌, List, Ok, Err, None}
 use Rattle.mrc_instruction.specs.declared.reading.Reading.{Reading}
 use Rattle.mrc_instruction.specs.declared.reading.Reading.TheVariants.{One}
 use Rattle.mrc_instruction.specs.declared.operand.Operand.{Operand}
 use Rattle.mrc_instruction.specs.declared.operand.OperandSize.{OperandSize}
-use Rattle.mrc_instruction.specs.declared.instruction.Repeated.{Repeated}
+use Rattle.mrc_instruction.specs.declared.instruction.Instruction.{Instruction}
 use Rattle.mrc_instruction.specs.declared.instruction.Reach.{Reach}
 use Rattle.mrc_instruction.specs.Instruction.{reached, wrote}
-use Rattle.mrc_instruction.specs.Reader.{Outcome, read_from}
-use Rattle.mrc_instruction.specs.Values.{Values, carrying}
-use Rattle.mrc_instruction.specs.Read.{answered}
-use Rattle.mrc_rules.specs.declared.Answer.{Answer}
-use Rattle.mrc_rules.specs.Answer.{number, byte, taken, prefixes}
+use Rattle.mrc_instruction.specs.Reader.{Outcome, mapped, after, read_from}
+use Rattle.mrc_instruction.specs.Values.{Values, carrying, refused_with}
+use Rattle.mrc_instruction.specs.Read.{Read, told, taking}
 use Rattle.mrc_rules.specs.Forms.{Tail, Row, ModRMForm, rest, behind}
 use Rattle.mrc_rules.specs.Prefixes.{made}
 
+-- the instruction of a tail alone
+abbrev pub unprefixed : Tail → Instruction
+unprefixed i = made i None i.operands
+
 -- read from a position on
-abbrev pub form_read : ℕ → Outcome Tail → Answer
-form_read at = answered (λ i n. Answer.Decoded (made i Repeated.None i.operands) (at + n) 0) (λ e n. Answer.Refused e (at + n) 0)
+abbrev pub form_read : ℕ → Outcome Tail → Read Instruction
+form_read at o = told (mapped unprefixed (after at o))
 
 -- behind the opcode
-abbrev pub read_in : Reading → ℕ → Row → ℕ → List ℕ → Answer
+abbrev pub read_in : Reading → ℕ → Row → ℕ → List ℕ → Read Instruction
 read_in x opcode row at l = form_read at (read_from (rest x opcode row) l)
 
 -- behind a ModRM, by the operand of a size that its mod and rm name and by its byte
-abbrev pub read_behind_in : Reading → ModRMForm → OperandSize → Operand → ℕ → ℕ → List ℕ → Answer
+abbrev pub read_behind_in : Reading → ModRMForm → OperandSize → Operand → ℕ → ℕ → List ℕ → Read Instruction
 read_behind_in x form size operand byte at l = form_read at (read_from (behind x form size operand byte) l)
 
 -- the same, of a row and of a form that both readings read alike
-abbrev pub read_by : ℕ → Row → ℕ → List ℕ → Answer
+abbrev pub read_by : ℕ → Row → ℕ → List ℕ → Read Instruction
 read_by = read_in One
 
-abbrev pub read_behind : ModRMForm → OperandSize → Operand → ℕ → ℕ → List ℕ → Answer
+abbrev pub read_behind : ModRMForm → OperandSize → Operand → ℕ → ℕ → List ℕ → Read Instruction
 read_behind = read_behind_in One
 
 -- the same answer, with how far its instruction goes
-abbrev pub reached_answer : Reach → Answer → Answer
-reached_answer reach (Answer.Decoded i n p) = Answer.Decoded (reached reach i) n p
-reached_answer reach (Answer.Refused e n p) = Answer.Refused e n p
+abbrev pub reached_answer : Reach → Read Instruction → Read Instruction
+reached_answer reach (Ok t) = Ok (taking (reached reach t.value) t.taken)
+reached_answer reach (Err e) = Err e
 
 -- the same answer, with the displacement bytes that its instruction was written with
-abbrev pub wrote_answer : ℕ → Answer → Answer
-wrote_answer written (Answer.Decoded i n p) = Answer.Decoded (wrote written i) n p
-wrote_answer written (Answer.Refused e n p) = Answer.Refused e n p
+abbrev pub wrote_answer : ℕ → Read Instruction → Read Instruction
+wrote_answer written (Ok t) = Ok (taking (wrote written t.value) t.taken)
+wrote_answer written (Err e) = Err e
 
 -- in numbers, by the position that it was read from
-abbrev pub form_values : ℕ → Answer → Values
-form_values at d = carrying (number d) (byte d) (taken d - at) (prefixes d)
+abbrev pub form_values : ℕ → Read Instruction → Values
+form_values at (Ok t) = carrying 0 0 (t.taken - at) 0
+form_values at (Err e) = refused_with e.refusal (e.taken - at) 0

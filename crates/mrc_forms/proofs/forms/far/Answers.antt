@@ -1,51 +1,26 @@
--- Two readers, and then done. The sums fit, since what a reader took is there.
+-- Two readers, and then done.
 -- Assumes nothing.
-use Rattle.std.proofs.Common.{refl, ap, ◌+◌, add_assoc, arith}
+use Rattle.std.proofs.Common.{◌∙◌, arith}
+use Rattle.mrc_instruction.specs.declared.operand.Operand.{Operand}
 use Rattle.mrc_instruction.specs.Reader.{a_word}
-use Rattle.mrc_instruction.proofs.Sequence.{took, then_at, done_at, stop_at}
-use Rattle.mrc_instruction.proofs.Outcomes.{word_is}
-use Rattle.mrc_forms.specs.Answers.{form_read}
+use Rattle.mrc_instruction.proofs.Outcomes.{passed}
+use Rattle.mrc_rules.specs.Forms.{one}
+use Rattle.mrc_forms.proofs.Outcomes.{form_stop, form_two}
 use Rattle.mrc_forms.proofs.forms.far.Goals as goal
 
-pub overflow_add-at : goal.overflow_add-at
-overflow_add-at c = omega (arith, took a_word c.args.s.now c.args.at (word_is c.in-Got.ensures))
+pub returns-in_err-first : goal.returns-in_err-first
+returns-in_err-first c =
+    passed c.from_residual.result c.from_residual.ensures.1
+    ∙ form_stop a_word _ c.args.s.now c.args.at (omega arith) (omega arith) c.read_u16.ensures c.in_err-first.ensures
 
-pub overflow_add-at-in-Got-read_u16 : goal.overflow_add-at-in-Got-read_u16
-overflow_add-at-in-Got-read_u16 c =
-    omega
-    (arith, took a_word c.args.s.now c.args.at (word_is c.in-Got.ensures), took a_word c.args.s.now (c.args.at + c.in-Got.n) (word_is c.in-Got-read_u16.ensures))
+pub returns-in_err-second : goal.returns-in_err-second
+returns-in_err-second c =
+    passed c.from_residual-in_err-second.result c.from_residual-in_err-second.ensures.1
+    ∙ form_two a_word (λ offset. a_word) (λ offset segment. one c.args.operation (Operand.SegmentAndOffset (record { segment = segment; offset = offset })))
+    c.args.s.now c.args.at (omega arith) (omega arith) c.read_u16.ensures c.in_ok-first.ensures c.read_u16-2.ensures c.in_err-second.ensures
 
-pub overflow_add-at-in-Got-read_u16-2 : goal.overflow_add-at-in-Got-read_u16-2
-overflow_add-at-in-Got-read_u16-2 c =
-    omega
-    (arith, took a_word c.args.s.now c.args.at (word_is c.in-Got.ensures), took a_word c.args.s.now (c.args.at + c.in-Got.n) (word_is c.in-Got-read_u16.ensures))
-
-pub returns-in-Got-read_u16 : goal.returns-in-Got-read_u16
-returns-in-Got-read_u16 c =
-    rw (c.decoded.ensures, add_assoc c.args.at)
-    (ap (form_read c.args.at)
-    (then_at a_word _ c.args.s.now c.args.at (word_is c.in-Got.ensures)
-    (done_at a_word _ c.args.s.now (c.args.at + c.in-Got.n) (word_is c.in-Got-read_u16.ensures) refl)))
-
-pub overflow_add-result : goal.overflow_add-result
-overflow_add-result c =
-    omega
-    (arith, took a_word c.args.s.now c.args.at (word_is c.in-Got.ensures), took a_word c.args.s.now (c.args.at + c.in-Got.n) (word_is c.in-Refused-read_u16.ensures))
-
-pub overflow_add-result-in-Refused-read_u16 : goal.overflow_add-result-in-Refused-read_u16
-overflow_add-result-in-Refused-read_u16 c =
-    omega
-    (arith, took a_word c.args.s.now c.args.at (word_is c.in-Got.ensures), took a_word c.args.s.now (c.args.at + c.in-Got.n) (word_is c.in-Refused-read_u16.ensures))
-
-pub returns-in-Refused-read_u16 : goal.returns-in-Refused-read_u16
-returns-in-Refused-read_u16 c =
-    rw (add_assoc c.args.at)
-    (ap (form_read c.args.at)
-    (then_at a_word _ c.args.s.now c.args.at (word_is c.in-Got.ensures)
-    (stop_at a_word _ c.args.s.now (c.args.at + c.in-Got.n) (word_is c.in-Refused-read_u16.ensures))))
-
-pub overflow_add-result-in-Refused : goal.overflow_add-result-in-Refused
-overflow_add-result-in-Refused c = omega (arith, took a_word c.args.s.now c.args.at (word_is c.in-Refused.ensures))
-
-pub returns-in-Refused : goal.returns-in-Refused
-returns-in-Refused c = ap (form_read c.args.at) (stop_at a_word _ c.args.s.now c.args.at (word_is c.in-Refused.ensures))
+pub returns : goal.returns
+returns c =
+    rw c.decoded.ensures
+    (form_two a_word (λ offset. a_word) (λ offset segment. one c.args.operation (Operand.SegmentAndOffset (record { segment = segment; offset = offset })))
+    c.args.s.now c.args.at (omega arith) (omega arith) c.read_u16.ensures c.in_ok-first.ensures c.read_u16-2.ensures c.in_ok-second.ensures)
