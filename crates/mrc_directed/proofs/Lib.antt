@@ -1,4 +1,3 @@
-pub mod SegmentField
 pub mod Either
 pub mod GroupF6
 pub mod Order

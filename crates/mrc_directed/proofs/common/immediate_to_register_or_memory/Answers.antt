@@ -1,25 +1,18 @@
--- One reader, and then done. The sums fit, since what a reader took is there.
+-- One reader, and then done.
 -- Assumes nothing.
-use Rattle.std.proofs.Common.{refl, ap, nat_eq, arith}
+use Rattle.std.proofs.Common.{◌∙◌, arith, nat_eq}
 use Rattle.mrc_rules.specs.Forms.{an_immediate}
 use Rattle.mrc_directed.proofs.Either.{immediate_either}
-use Rattle.mrc_instruction.proofs.Sequence.{took, done_at, stop_at}
-use Rattle.mrc_forms.specs.Answers.{form_read}
-use Rattle.mrc_forms.proofs.Outcomes.{immediate_is}
+use Rattle.mrc_instruction.proofs.Outcomes.{passed}
+use Rattle.mrc_forms.proofs.Outcomes.{form_stop, form_one}
 use Rattle.mrc_directed.proofs.common.immediate_to_register_or_memory.Goals as goal
 
-pub overflow_add-at : goal.overflow_add-at
-overflow_add-at c = omega (arith, took (an_immediate c.args.size) c.args.s.now c.args.at (immediate_is c.in-Got.ensures))
+pub returns-in_err-immediate : goal.returns-in_err-immediate
+returns-in_err-immediate c =
+    passed c.from_residual.result c.from_residual.ensures.1
+    ∙ rw (immediate_either (nat_eq c.args.group 0x80) c.args.size c.args.destination.operand c.args.destination.byte) (form_stop (an_immediate c.args.size) _ c.args.s.now c.args.at (omega arith) (omega arith) c.read_immediate.ensures c.in_err-immediate.ensures)
 
-pub returns-in-Got : goal.returns-in-Got
-returns-in-Got c =
-    rw (c.decoded.ensures, c.immediate_operation-operation.ensures, c.reg_field.ensures, immediate_either (nat_eq c.args.group 0x80) c.args.size c.args.destination c.args.byte)
-    (ap (form_read c.args.at) (done_at (an_immediate c.args.size) _ c.args.s.now c.args.at (immediate_is c.in-Got.ensures) refl))
-
-pub overflow_add-result : goal.overflow_add-result
-overflow_add-result c = omega (arith, took (an_immediate c.args.size) c.args.s.now c.args.at (immediate_is c.in-Refused.ensures))
-
-pub returns-in-Refused : goal.returns-in-Refused
-returns-in-Refused c =
-    rw (immediate_either (nat_eq c.args.group 0x80) c.args.size c.args.destination c.args.byte)
-    (ap (form_read c.args.at) (stop_at (an_immediate c.args.size) _ c.args.s.now c.args.at (immediate_is c.in-Refused.ensures)))
+pub returns : goal.returns
+returns c =
+    rw (c.decoded.ensures, c.immediate_operation-operation.ensures, c.reg_field.ensures, immediate_either (nat_eq c.args.group 0x80) c.args.size c.args.destination.operand c.args.destination.byte)
+    (form_one _ (an_immediate c.args.size) c.args.s.now c.args.at (omega arith) (omega arith) c.read_immediate.ensures c.in_ok-immediate.ensures)
