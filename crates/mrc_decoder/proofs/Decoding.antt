@@ -18,7 +18,9 @@ use Rattle.mrc_decoder.specs.declared.form.OpcodeAlone.{OpcodeAlone}
 use Rattle.mrc_decoder.specs.Form.{Meaning, overrides, repeats, reads, meaning_of, alone_row}
 use Rattle.mrc_instruction.specs.Reader.{Outcome, got, stopped, read_from}
 use Rattle.mrc_instruction.proofs.Rest.{here, none}
-use Rattle.mrc_rules.specs.Answer.{taken}
+use Rattle.mrc_instruction.specs.declared.instruction.Instruction.{Instruction}
+use Rattle.mrc_instruction.specs.Read.{Read}
+use Rattle.mrc_rules.specs.Answer.{refuses}
 use Rattle.mrc_instruction.specs.Operand.{size_by}
 use Rattle.mrc_rules.specs.Forms.{Tail, Row, acc_direct, direct_acc, rest}
 use Rattle.mrc_rules.specs.Table.{row_of}
@@ -28,7 +30,7 @@ use Rattle.mrc_forms.specs.Answers.{form_read, read_by, read_in}
 use Rattle.mrc_forms.specs.Traits.{d_bit}
 use Rattle.mrc_directed.specs.Moves.{accumulator_and_direct}
 use Rattle.mrc_decoder.specs.Prefixes.{Small, under_override, with_repeat, behind_prefix, too_many, past_end}
-use Rattle.mrc_decoder.specs.Decode.{after_opcode, counted_from}
+use Rattle.mrc_decoder.specs.Decode.{after_opcode, end_of, answer_from}
 use Rattle.mrc_decoder.proofs.Steps.{step_end, step_tail, step_over, override_prefix, repeat_prefix}
 use Rattle.mrc_decoder.proofs.Wrapping.{override_wraps, repeat_wraps, below, above}
 use Rattle.mrc_rules.proofs.Counting.{taken_there, prefixes_there}
@@ -54,10 +56,10 @@ says x b m e = subst (Says x b) (sym e) (meaning_says x b)
 pub inside : (x : Reading) (s : List ℕ) (at n : ℕ) → at ≤ length s → decode_at x s at n ≡ decode_by (rules x) n (drop at s)
 inside x s at n h = rw (le-leb at (length s) h)
 
-pub outside : (x : Reading) (s : List ℕ) (at n : ℕ) → length s < at → Answer.Refused Refusal.OutsideInput 0 0 ≡ decode_at x s at n
+pub outside : (x : Reading) (s : List ℕ) (at n : ℕ) → length s < at → refuses Refusal.OutsideInput 0 0 ≡ decode_at x s at n
 outside x s at n h = rw (lt-leb at (length s) h)
 
-pub at_end : (x : Reading) (s : List ℕ) (at n : ℕ) → length s ≡ at → Answer.Refused Refusal.EndOfInput 0 0 ≡ decode_at x s at n
+pub at_end : (x : Reading) (s : List ℕ) (at n : ℕ) → length s ≡ at → refuses Refusal.EndOfInput 0 0 ≡ decode_at x s at n
 at_end x s at n h = sym (inside x s at n (omega arith) ∙ ap (decode_by (rules x) n) (none s at (omega arith)) ∙ step_end (rules x) n)
 
 -- a form that is its opcode alone reads nothing, wherever that stands
@@ -85,11 +87,11 @@ direct_alike x byte at l = go (d_bit byte)
 taken_at : (at n : ℕ) → at + 1 + n - at ≡ suc n
 taken_at at n = omega arith
 
-answered_at : (at : ℕ) (o : Outcome Tail) → counted_from at (form_read (at + 1) o) ≡ after_opcode o
+answered_at : (at : ℕ) (o : Outcome Tail) → answer_from at (form_read (at + 1) o) ≡ after_opcode o
 answered_at at (got i n) = rw (taken_at at n)
 answered_at at (stopped e n) = rw (taken_at at n)
 
-ended_at : (at : ℕ) (o : Outcome Tail) → at ≤ taken (form_read (at + 1) o)
+ended_at : (at : ℕ) (o : Outcome Tail) → at ≤ end_of (form_read (at + 1) o)
 ended_at at (got i n) = omega arith
 ended_at at (stopped e n) = omega arith
 
@@ -105,15 +107,15 @@ module _ (x : Reading) (s : List ℕ) (at n : ℕ) (h : at < length s) where
   start = inside x s at n (omega arith) ∙ ap (decode_by (rules x) n) (here s at h)
 
   -- what a byte that reads by a row is read as: the position behind it is past the byte, and it is the answer
-  pub ends_behind : {row : Row} {r : Answer} → reads row ≡ meaning_of x (get_or s at 0) → r ≡ read_in x (get_or s at 0) row (at + 1) (drop (at + 1) s) → at ≤ taken r
+  pub ends_behind : {row : Row} {r : Read Instruction} → reads row ≡ meaning_of x (get_or s at 0) → r ≡ read_in x (get_or s at 0) row (at + 1) (drop (at + 1) s) → at ≤ end_of r
   ends_behind {row} e f = rw f (ended_at at (read_from (rest x (get_or s at 0) row) (drop (at + 1) s)))
 
-  pub no_prefix : {row : Row} {r d : Answer} → reads row ≡ meaning_of x (get_or s at 0) → r ≡ read_in x (get_or s at 0) row (at + 1) (drop (at + 1) s)
-      → d ≡ counted_from at r → d ≡ decode_at x s at n
+  pub no_prefix : {row : Row} {r : Read Instruction} {d : Answer} → reads row ≡ meaning_of x (get_or s at 0) → r ≡ read_in x (get_or s at 0) row (at + 1) (drop (at + 1) s)
+      → d ≡ answer_from at r → d ≡ decode_at x s at n
   no_prefix {row} e f g =
       let said = says x (get_or s at 0) (reads row) e in
       g
-      ∙ ap (counted_from at) f
+      ∙ ap (answer_from at) f
       ∙ answered_at at (read_from (rest x (get_or s at 0) row) (drop (at + 1) s))
       ∙ ap (λ (y : Row). after_opcode (read_from (rest x (get_or s at 0) y) (drop (at + 1) s))) said.1
       ∙ sym (start ∙ step_tail (rules x) n (get_or s at 0) (drop (at + 1) s) said.0)

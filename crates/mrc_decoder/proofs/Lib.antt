@@ -1,5 +1,4 @@
 pub mod Arms
-pub mod Keeping
 pub mod ModRM
 pub mod Steps
 pub mod Wrapping

@@ -9,19 +9,22 @@ use native.Mathlib.Nat.{add-zero}
 use native.Mathlib.Omega.{arith}
 use lib.Dec.{eqb, ltb}
 use lib.ListN.{drop}
+use Rattle.std.specs.Prelude.{Ok, Err}
 use Rattle.mrc_instruction.specs.declared.errors.Refusal.{Refusal}
 use Rattle.mrc_instruction.specs.declared.reading.Reading.{Reading}
 use Rattle.mrc_instruction.specs.declared.operand.OperandSize.{OperandSize}
 use Rattle.mrc_instruction.specs.declared.operand.OperandSize.TheVariants.{Word}
 use Rattle.mrc_instruction.specs.declared.operand.Operand.{Operand}
-use Rattle.mrc_instruction.specs.declared.mrrm.OperandRead.{OperandRead}
+use Rattle.mrc_instruction.specs.declared.mrrm.NamedOperand.{NamedOperand}
+use Rattle.mrc_instruction.specs.declared.instruction.Instruction.{Instruction}
+use Rattle.mrc_instruction.specs.declared.read.Taken.{Taken}
+use Rattle.mrc_instruction.specs.declared.read.Stop.{Stop}
 use Rattle.mrc_instruction.specs.Instruction.{wrote}
-use Rattle.mrc_instruction.specs.Reader.{Reader, done, refuse, ◌>>=◌, Outcome, got, stopped, read_from}
+use Rattle.mrc_instruction.specs.Reader.{Reader, done, refuse, ◌>>=◌, Outcome, got, stopped, after, read_from}
 use Rattle.mrc_instruction.specs.Mrrm.{ModRM, reg_field, a_modrm, written_in}
-use Rattle.mrc_instruction.specs.Read.{operand_read}
-use Rattle.mrc_instruction.proofs.Sequence.{after, through, then, then_at, stop_at}
+use Rattle.mrc_instruction.specs.Read.{Read, taking, stopping, named_by, operand_read}
+use Rattle.mrc_instruction.proofs.Sequence.{through, then, then_at, stop_at}
 use Rattle.mrc_rules.specs.Forms.{Tail, ModRMForm, rm_segment, segment_rm, pop, group80, group_c6, group_fe, escape_rm, with_modrm, behind, rm}
-use Rattle.mrc_rules.specs.declared.Answer.{Answer}
 use Rattle.mrc_forms.specs.Answers.{form_read, read_behind, read_behind_in, wrote_answer}
 
 -- n bytes more before the position
@@ -47,38 +50,35 @@ module _ (x : Reading) (form : ModRMForm) (size : OperandSize) (s : List ℕ) (a
   abbrev written_by_lem : ModRM → Reader Tail
   written_by_lem m = reader m >>= λ i. done (wrote (written_in m) i)
 
-  pub then_behind : {operand : Operand} {next byte written : ℕ} {r : Answer} → OperandRead.Got operand next byte written ≡ operand_read x size at (read_from a_modrm (drop at s))
-      → r ≡ form_read next (read_from (behind x form size operand byte) (drop next s))
-      → wrote_answer written r ≡ form_read at (read_from (with_modrm x size (behind x form size)) (drop at s))
+  pub then_behind : {t : Taken NamedOperand} {r : Read Instruction} → Ok t ≡ operand_read x size at (read_from a_modrm (drop at s))
+      → r ≡ form_read t.taken (read_from (behind x form size t.value.operand t.value.byte) (drop t.taken s))
+      → wrote_answer t.value.written r ≡ form_read at (read_from (with_modrm x size (behind x form size)) (drop at s))
   unfolding with_modrm
-  then_behind {operand} {next} {byte} {written} {r} = go (read_from a_modrm (drop at s)) refl
+  then_behind {t} {r} = go (read_from a_modrm (drop at s)) refl
     where
-      go : (o : Outcome ModRM) → o ≡ read_from a_modrm (drop at s) → OperandRead.Got operand next byte written ≡ operand_read x size at o
-          → r ≡ form_read next (read_from (behind x form size operand byte) (drop next s))
-          → wrote_answer written r ≡ form_read at (read_from (with_modrm x size (behind x form size)) (drop at s))
+      go : (o : Outcome ModRM) → o ≡ read_from a_modrm (drop at s) → Ok t ≡ operand_read x size at o
+          → r ≡ form_read t.taken (read_from (behind x form size t.value.operand t.value.byte) (drop t.taken s))
+          → wrote_answer t.value.written r ≡ form_read at (read_from (with_modrm x size (behind x form size)) (drop at s))
       go (got m n) q e f =
-          let named : operand ≡ rm x m size = cc in
-          let position : next ≡ at + n = cc in
-          let its_byte : byte ≡ m.byte = cc in
-          let count : written ≡ written_in m = cc in
-          ap₂ wrote_answer count (rw (named, position, its_byte) at f)
+          let its : t ≡ taking (named_by x size m) (at + n) = cc in
+          ap₂ wrote_answer (ap (λ (u : Taken NamedOperand). u.value.written) its) (rw its at f)
           ∙ answer_wrote (written_in m) (at + n) (read_from (reader m) (drop (at + n) s))
           ∙ ap (form_read (at + n)) (sym (then (reader m) (λ i. done (wrote (written_in m) i)) (drop (at + n) s)))
           ∙ form_after at n (read_from (written_by_lem m) (drop (at + n) s))
           ∙ ap (form_read at) (then_at a_modrm written_by_lem s at q refl)
       go (stopped y n) q e f = cc
 
-  pub stops_before : {e : Refusal} {end : ℕ} → OperandRead.Refused e end ≡ operand_read x size at (read_from a_modrm (drop at s))
-      → Answer.Refused e end 0 ≡ form_read at (read_from (with_modrm x size (behind x form size)) (drop at s))
+  pub stops_before : {e : Stop} → Err e ≡ operand_read x size at (read_from a_modrm (drop at s))
+      → Err e ≡ form_read at (read_from (with_modrm x size (behind x form size)) (drop at s))
   unfolding with_modrm
-  stops_before {e} {end} = go (read_from a_modrm (drop at s)) refl
+  stops_before {e} = go (read_from a_modrm (drop at s)) refl
     where
-      go : (o : Outcome ModRM) → o ≡ read_from a_modrm (drop at s) → OperandRead.Refused e end ≡ operand_read x size at o
-          → Answer.Refused e end 0 ≡ form_read at (read_from (with_modrm x size (behind x form size)) (drop at s))
+      go : (o : Outcome ModRM) → o ≡ read_from a_modrm (drop at s) → Err e ≡ operand_read x size at o
+          → Err e ≡ form_read at (read_from (with_modrm x size (behind x form size)) (drop at s))
       go (got m n) q h = cc
       go (stopped y n) q h =
-          let same_refusal : Answer.Refused e end 0 ≡ Answer.Refused y (at + n) 0 = cc in
-          same_refusal ∙ ap (form_read at) (stop_at a_modrm written_by_lem s at q)
+          let its : e ≡ stopping y (at + n) = cc in
+          ap Err its ∙ ap (form_read at) (stop_at a_modrm written_by_lem s at q)
 
 -- where nothing is read behind the ModRM, what stands there does not matter
 tested : (t : Bool) (i : Tail) (e : Refusal) (at : ℕ) (l : List ℕ)

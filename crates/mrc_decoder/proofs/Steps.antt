@@ -17,7 +17,8 @@ use Rattle.mrc_rules.specs.declared.Answer.{Answer}
 use Rattle.mrc_instruction.specs.Reader.{Outcome, got, stopped, taken_by}
 use Rattle.mrc_rules.specs.Forms.{Tail}
 use Rattle.mrc_rules.specs.Prefixes.{is_override, is_repeat, is_prefix, run_of, tail_of, first, repeat_of, made}
-use Rattle.mrc_rules.specs.Decode.{Rules, answer, tail, result_of, together, decode_by}
+use Rattle.mrc_rules.specs.Answer.{answer, refuses}
+use Rattle.mrc_rules.specs.Decode.{Rules, tail, result_of, together, decode_by}
 use Rattle.mrc_decoder.specs.Decode.{alone}
 use Rattle.mrc_decoder.specs.Prefixes.{refusal_under, result_under, result_repeated, wrapped, under_override_by, with_repeat, too_many}
 use Rattle.mrc_rules.proofs.Striking.{override_no_repeat, repeat_no_override}
@@ -47,8 +48,7 @@ pub record Wraps (R : Rules) : Type 1 where
   pub repeated : (r later : Option Repeat) (o : ℕ) (i : Tail) → Of i → result_repeated r (R.override o later i) ≡ R.override o r i
 
 wrapped_answer : (f : Result Instruction Refusal → Result Instruction Refusal) (x : Result Instruction Refusal) (n p : ℕ) → wrapped f (answer x n p) ≡ answer (f x) (n + 1) (p + 1)
-wrapped_answer f (Ok i) n p = refl
-wrapped_answer f (Err e) n p = refl
+wrapped_answer f x n p = refl
 
 -- a byte of each kind is a prefix
 pub override_prefix : (o : ℕ) → is_override o ≡ true → is_prefix o ≡ true
@@ -96,14 +96,14 @@ module _ (R : Rules) (W : Wraps R) where
       ≡ f (result_of R (first is_override (run_of l)) (first is_repeat (run_of l)) (tail R (tail_of l)))
       → decode_by R (suc b) (op ∷ l) ≡ wrapped f (decode_by R b l)
   one_more f b op l e passes same =
-      ap₂ (λ (run rest : List ℕ). cond (leb (length run) (suc b)) (together R run (tail R rest)) (Answer.Refused (Refusal.TooManyPrefixes (get_or run (suc b) 0)) (suc b + 1) (suc b + 1)))
+      ap₂ (λ (run rest : List ℕ). cond (leb (length run) (suc b)) (together R run (tail R rest)) (refuses (Refusal.TooManyPrefixes (get_or run (suc b) 0)) (suc b + 1) (suc b + 1)))
       (ap (λ (t : Bool). cond t (op ∷ run_of l) []) e)
       (ap (λ (t : Bool). cond t (tail_of l) (op ∷ l)) e)
       ∙ rw (leb-suc-suc (length (run_of l)) b) (go (leb (length (run_of l)) b))
     where
       go : (c : Bool)
-          → cond c (together R (op ∷ run_of l) (tail R (tail_of l))) (Answer.Refused (Refusal.TooManyPrefixes (get_or (run_of l) b 0)) (suc b + 1) (suc b + 1))
-          ≡ wrapped f (cond c (together R (run_of l) (tail R (tail_of l))) (Answer.Refused (Refusal.TooManyPrefixes (get_or (run_of l) b 0)) (b + 1) (b + 1)))
+          → cond c (together R (op ∷ run_of l) (tail R (tail_of l))) (refuses (Refusal.TooManyPrefixes (get_or (run_of l) b 0)) (suc b + 1) (suc b + 1))
+          ≡ wrapped f (cond c (together R (run_of l) (tail R (tail_of l))) (refuses (Refusal.TooManyPrefixes (get_or (run_of l) b 0)) (b + 1) (b + 1)))
       go true =
           let count : suc (length (run_of l)) + taken_by (tail R (tail_of l)) ≡ length (run_of l) + taken_by (tail R (tail_of l)) + 1 = omega arith in
           let prefix : suc (length (run_of l)) ≡ length (run_of l) + 1 = omega arith in

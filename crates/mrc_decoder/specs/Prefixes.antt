@@ -9,9 +9,8 @@ use Rattle.mrc_instruction.specs.declared.reading.Reading.{Reading}
 use Rattle.mrc_instruction.specs.declared.instruction.Repeat.{Repeat}
 use Rattle.mrc_instruction.specs.declared.instruction.Instruction.{Instruction}
 use Rattle.mrc_rules.specs.declared.Answer.{Answer}
-use Rattle.mrc_rules.specs.Answer.{taken, prefixes}
+use Rattle.mrc_rules.specs.Answer.{answer, refuses, taken, prefixes}
 use Rattle.mrc_rules.specs.Prefixes.{repeat_of, made, under}
-use Rattle.mrc_rules.specs.Decode.{answer}
 
 -- a refusal under an override: too many prefixes passes through; any other, an inner override's too, becomes InvalidPrefix with this override,
 -- which is the earlier one
@@ -29,8 +28,7 @@ result_repeated r (Err e) = Err e
 
 -- an answer behind one prefix more
 abbrev pub wrapped : (Result Instruction Refusal → Result Instruction Refusal) → Answer → Answer
-wrapped f (Answer.Decoded i n p) = answer (f (Ok i)) (n + 1) (p + 1)
-wrapped f (Answer.Refused e n p) = answer (f (Err e)) (n + 1) (p + 1)
+wrapped f d = answer (f d.result) (d.taken + 1) (d.prefixes + 1)
 
 abbrev pub under_override_by : (ℕ → Instruction → Result Instruction Refusal) → ℕ → Answer → Answer
 under_override_by over o d = wrapped (result_under over o) d
@@ -51,11 +49,11 @@ behind_prefix x b d = cond (ltb b 0xF0) (under_override x b d) (with_repeat (rep
 
 -- a prefix over the budget
 abbrev pub too_many : ℕ → Answer
-too_many b = Answer.Refused (TooManyPrefixes b) 1 1
+too_many b = refuses (TooManyPrefixes b) 1 1
 
 -- no byte at a position: rule 8.4 at the end, rule 8.3 past it
 abbrev pub past_end : ℕ → ℕ → Answer
-past_end len at = cond (eqb len at) (Answer.Refused EndOfInput 0 0) (Answer.Refused OutsideInput 0 0)
+past_end len at = cond (eqb len at) (refuses EndOfInput 0 0) (refuses OutsideInput 0 0)
 
 -- both counts can grow by one
 abbrev pub Small : Answer → Type 0

@@ -4,8 +4,7 @@ ghost use Rattle.mrc_rules.specs.Forms.{◌⦂◌};
 ghost use Rattle.mrc_rules.specs.Decode.{decode_at};
 ghost use Rattle.mrc_forms.specs.Answers.{read_by, read_in, read_behind_in};
 ghost use Rattle.mrc_decoder.specs.Form.{alone_row, modrm_form};
-ghost use Rattle.mrc_rules.specs.Answer.{taken};
-ghost use Rattle.mrc_decoder.specs.Decode.{counted_from};
+ghost use Rattle.mrc_decoder.specs.Decode.{end_of, answer_from};
 ghost use Rattle.mrc_decoder.specs.Prefixes.{too_many, past_end};
 
 use crate::form::{Form, OpcodeAlone, WithModRM, form_of};
@@ -24,135 +23,109 @@ use mrc_forms::forms::{
     on_segment, pop,
 };
 use mrc_instruction::errors::Refusal;
-use mrc_instruction::instruction::Reach;
-use mrc_instruction::mrrm::{OperandRead, read_operand};
-use mrc_instruction::operand::{Operand, OperandSize};
+use mrc_instruction::instruction::{Instruction, Reach};
+use mrc_instruction::mrrm::{NamedOperand, read_operand};
+use mrc_instruction::operand::OperandSize;
 use mrc_instruction::operation::Operation;
+use mrc_instruction::read::Read;
 use mrc_instruction::reading::Reading;
 use mrc_rules::Answer;
 
 // A form that is its opcode alone, with the position behind it.
-fn opcode_alone(form: OpcodeAlone, opcode: u8, at: usize) -> Answer
+fn opcode_alone(form: OpcodeAlone, opcode: u8, at: usize) -> Read<Instruction>
     ensures { result ≡ read_by opcode (alone_row form opcode) at [] }
 {
     match form {
-        OpcodeAlone::Bare(operation) => return bare(operation, at),
-        OpcodeAlone::Return(reach) => return reaching(reach, bare(Operation::RET, at)),
-        OpcodeAlone::OnSegment(operation) => return on_segment(operation, opcode, at),
-        OpcodeAlone::Exchange => return exchange(opcode, at),
-        OpcodeAlone::InDx => return in_dx(opcode, at),
-        OpcodeAlone::OutDx => return out_dx(opcode, at),
+        OpcodeAlone::Bare(operation) => bare(operation, at),
+        OpcodeAlone::Return(reach) => reaching(reach, bare(Operation::RET, at)),
+        OpcodeAlone::OnSegment(operation) => on_segment(operation, opcode, at),
+        OpcodeAlone::Exchange => exchange(opcode, at),
+        OpcodeAlone::InDx => in_dx(opcode, at),
+        OpcodeAlone::OutDx => out_dx(opcode, at),
     }
 }
 
-// What a form reads behind its ModRM, by the operand that this names, its byte and the position behind it.
+// What a form reads behind its ModRM, by what this names and the position behind it.
 fn behind_modrm(
     form: WithModRM,
     size: OperandSize,
-    operand: Operand,
-    byte: u8,
+    modrm: NamedOperand,
     s: &[u8],
     next: usize,
     reading: Reading,
-) -> Answer
-    ensures { result ≡ read_behind_in reading (modrm_form form) size operand byte next (drop next s.now) }
+) -> Read<Instruction>
+    ensures { result ≡ read_behind_in reading (modrm_form form) size modrm.operand modrm.byte next (drop next s.now) }
 {
     match form {
-        WithModRM::Pop => return pop(operand, byte, next),
-        WithModRM::OnRegisterOrMemory(group) => return on_register_or_memory(
-            group, size, operand, byte, next,
-        ),
-        WithModRM::GroupF6 => return group_f6(size, operand, byte, s, next),
-        WithModRM::RmReg(operation) => {
-            return register_or_memory_and_register(
-                operation,
-                Direction::RegMemFirst, // rm,reg
-                size,
-                operand,
-                byte,
-                next,
-            );
-        }
-        WithModRM::RegRm(operation) => {
-            return register_or_memory_and_register(
-                operation,
-                Direction::RegFirst, // reg,rm
-                size,
-                operand,
-                byte,
-                next,
-            );
-        }
-        WithModRM::RmSegment => return register_or_memory_and_segment(
-            Direction::RegMemFirst, // rm,segment
-            operand,
-            byte,
+        WithModRM::Pop => pop(modrm, next),
+        WithModRM::OnRegisterOrMemory(group) => on_register_or_memory(group, size, modrm, next),
+        WithModRM::GroupF6 => group_f6(size, modrm, s, next),
+        WithModRM::RmReg(operation) => register_or_memory_and_register(
+            operation,
+            Direction::RegMemFirst, // rm,reg
+            size,
+            modrm,
             next,
         ),
-        WithModRM::SegmentRm => return register_or_memory_and_segment(
+        WithModRM::RegRm(operation) => register_or_memory_and_register(
+            operation,
+            Direction::RegFirst, // reg,rm
+            size,
+            modrm,
+            next,
+        ),
+        WithModRM::RmSegment => register_or_memory_and_segment(
+            Direction::RegMemFirst, // rm,segment
+            modrm,
+            next,
+        ),
+        WithModRM::SegmentRm => register_or_memory_and_segment(
             Direction::RegFirst, // segment,rm
-            operand,
-            byte,
+            modrm,
             next,
         ),
         WithModRM::ImmediateToRegisterOrMemory(group) => {
-            return immediate_to_register_or_memory(group, size, operand, byte, s, next);
+            immediate_to_register_or_memory(group, size, modrm, s, next)
         }
-        WithModRM::Group83 => return group_83(operand, byte, s, next, reading),
-        WithModRM::ShiftByImmediate => return shift_by_immediate(operand, byte, s, next),
-        WithModRM::ShiftByOne => return shift_by_one(operand, byte, next),
-        WithModRM::ShiftByCl => return shift_by_cl(size, operand, byte, next, reading),
+        WithModRM::Group83 => group_83(modrm, s, next, reading),
+        WithModRM::ShiftByImmediate => shift_by_immediate(modrm, s, next),
+        WithModRM::ShiftByOne => shift_by_one(modrm, next),
+        WithModRM::ShiftByCl => shift_by_cl(size, modrm, next, reading),
     }
 }
 
 // A form with a ModRM, from the position behind the opcode on: the operand of a size that the ModRM names, and what follows. How many displacement bytes
 // were written is set here, for all of them.
-fn with_modrm(form: WithModRM, size: OperandSize, s: &[u8], at: usize, reading: Reading) -> Answer
+fn with_modrm(
+    form: WithModRM,
+    size: OperandSize,
+    s: &[u8],
+    at: usize,
+    reading: Reading,
+) -> Read<Instruction>
     ensures { result ≡ read_in reading 0 (modrm_form form ⦂ size) at (drop at s.now) }
 {
-    match read_operand(size, s, at, reading) {
-        OperandRead::Got(operand, next, byte, written) => {
-            return writing(
-                written,
-                behind_modrm(form, size, operand, byte, s, next, reading),
-            );
-        }
-        OperandRead::Refused(e, end) => return Answer::Refused {
-            refusal: e,
-            taken: end,
-            prefixes: 0,
-        },
-    }
+    let modrm = read_operand(size, s, at, reading)?;
+    let read = behind_modrm(form, size, modrm.value, s, modrm.taken, reading);
+    writing(modrm.value.written, read)
 }
 
-// What a form's function answers, its bytes counted from the position of its opcode on.
-fn answered(at: usize, read: Answer) -> Answer
-    requires { at ≤ taken read }
-    ensures { result ≡ counted_from at read }
+// What a form's function answers, its bytes counted from the position of its opcode on, with no prefix.
+fn answered(at: usize, read: Read<Instruction>) -> Answer
+    requires { at ≤ end_of read }
+    ensures { result ≡ answer_from at read }
 {
     match read {
-        Answer::Decoded {
-            instruction,
-            taken,
-            prefixes,
-        } => {
-            return Answer::Decoded {
-                instruction,
-                taken: taken - at,
-                prefixes,
-            };
-        }
-        Answer::Refused {
-            refusal,
-            taken,
-            prefixes,
-        } => {
-            return Answer::Refused {
-                refusal,
-                taken: taken - at,
-                prefixes,
-            };
-        }
+        Ok(form) => Answer {
+            result: Ok(form.value),
+            taken: form.taken - at,
+            prefixes: 0,
+        },
+        Err(stop) => Answer {
+            result: Err(stop.refusal),
+            taken: stop.taken - at,
+            prefixes: 0,
+        },
     }
 }
 
@@ -160,8 +133,8 @@ fn answered(at: usize, read: Answer) -> Answer
 fn too_many(prefix: u8) -> Answer
     ensures { result ≡ too_many prefix }
 {
-    Answer::Refused {
-        refusal: Refusal::TooManyPrefixes(prefix),
+    Answer {
+        result: Err(Refusal::TooManyPrefixes(prefix)),
         taken: 1,
         prefixes: 1,
     }
@@ -171,15 +144,13 @@ fn too_many(prefix: u8) -> Answer
 fn past(len: usize, at: usize) -> Answer
     ensures { result ≡ past_end len at }
 {
-    if len == at {
-        return Answer::Refused {
-            refusal: Refusal::EndOfInput,
-            taken: 0,
-            prefixes: 0,
-        };
-    }
-    Answer::Refused {
-        refusal: Refusal::OutsideInput,
+    let refusal = if len == at {
+        Refusal::EndOfInput
+    } else {
+        Refusal::OutsideInput
+    };
+    Answer {
+        result: Err(refusal),
         taken: 0,
         prefixes: 0,
     }
@@ -193,51 +164,34 @@ pub fn decode_instruction(s: &[u8], at: usize, budget: u8, reading: Reading) -> 
         return past(s.len(), at);
     }
     let byte = s[at];
-    match form_of(byte, reading) {
-        Form::Override => {
+    let next = at + 1;
+    let read = match form_of(byte, reading) {
+        Form::Override | Form::Repeat => {
             if budget == 0 {
                 return too_many(byte);
             }
-            let overridden = decode_instruction(&s[..], at + 1, budget - 1, reading);
-            let answer = behind_prefix(byte, overridden, reading);
-            return answer;
+            let inner = decode_instruction(s, next, budget - 1, reading);
+            return behind_prefix(byte, inner, reading);
         }
-        Form::Repeat => {
-            if budget == 0 {
-                return too_many(byte);
-            }
-            let repeated = decode_instruction(&s[..], at + 1, budget - 1, reading);
-            let answer = behind_prefix(byte, repeated, reading);
-            return answer;
-        }
-        Form::Invalid => return answered(at, invalid(byte, at + 1)),
-        Form::OnRegister(operation) => return answered(at, on_register(operation, byte, at + 1)),
+        Form::Invalid => invalid(byte, next),
+        Form::OnRegister(operation) => on_register(operation, byte, next),
         Form::OnImmediate(operation, size, reach) => {
-            return answered(
-                at,
-                reaching(reach, on_immediate(operation, size, s, at + 1)),
-            );
+            reaching(reach, on_immediate(operation, size, s, next))
         }
         Form::OnDisplacement(operation, size, reach) => {
-            return answered(
-                at,
-                reaching(reach, on_displacement(operation, size, s, at + 1)),
-            );
+            reaching(reach, on_displacement(operation, size, s, next))
         }
-        Form::Far(operation) => {
-            return answered(at, reaching(Reach::Far, far(operation, s, at + 1)));
-        }
-        Form::Escape => return answered(at, escape(s, at + 1)),
-        Form::InPort => return answered(at, in_port(byte, s, at + 1)),
-        Form::OutPort => return answered(at, out_port(byte, s, at + 1)),
-        Form::RegisterAndImmediate => return answered(at, register_and_immediate(byte, s, at + 1)),
-        Form::AccumulatorAndDirect => return answered(at, accumulator_and_direct(byte, s, at + 1)),
+        Form::Far(operation) => reaching(Reach::Far, far(operation, s, next)),
+        Form::Escape => escape(s, next),
+        Form::InPort => in_port(byte, s, next),
+        Form::OutPort => out_port(byte, s, next),
+        Form::RegisterAndImmediate => register_and_immediate(byte, s, next),
+        Form::AccumulatorAndDirect => accumulator_and_direct(byte, s, next),
         Form::ImmediateToAccumulator(operation) => {
-            return answered(at, immediate_to_accumulator(operation, byte, s, at + 1));
+            immediate_to_accumulator(operation, byte, s, next)
         }
-        Form::OpcodeAlone(form) => return answered(at, opcode_alone(form, byte, at + 1)),
-        Form::WithModRM(form, size) => {
-            return answered(at, with_modrm(form, size, s, at + 1, reading));
-        }
-    }
+        Form::OpcodeAlone(form) => opcode_alone(form, byte, next),
+        Form::WithModRM(form, size) => with_modrm(form, size, s, next, reading),
+    };
+    answered(at, read)
 }

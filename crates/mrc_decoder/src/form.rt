@@ -13,7 +13,7 @@ use mrc_instruction::reading::Reading;
 
 // What a first byte is: a prefix, or an opcode whose form has the name of its function, with what the opcode says of it. The forms with a ModRM
 // share its reader, and the rarer ones that read nothing stand together.
-#[derive(Clone, Copy)]
+#[derive(Clone, Copy, Debug, PartialEq, Eq)]
 pub enum Form {
     Override,
     Repeat,
@@ -32,7 +32,7 @@ pub enum Form {
     WithModRM(WithModRM, OperandSize),
 }
 
-#[derive(Clone, Copy)]
+#[derive(Clone, Copy, Debug, PartialEq, Eq)]
 pub enum OpcodeAlone {
     Bare(Operation),
     Return(Reach),
@@ -42,7 +42,7 @@ pub enum OpcodeAlone {
     OutDx,
 }
 
-#[derive(Clone, Copy)]
+#[derive(Clone, Copy, Debug, PartialEq, Eq)]
 pub enum WithModRM {
     Pop,
     OnRegisterOrMemory(u8),

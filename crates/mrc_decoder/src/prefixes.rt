@@ -1,12 +1,10 @@
 // Prefixes: what one makes of the answer to the bytes behind it.
 ghost use Rattle.std.specs.Prelude.{◌≡◌};
-ghost use Rattle.std.proofs.Math.Option.{some};
-ghost use Rattle.mrc_instruction.specs.declared.instruction.Repeated.{Repeated};
 ghost use Rattle.mrc_rules.specs.Prefixes.{in_segment, repeat_of, keeps as keeps_in};
-ghost use Rattle.mrc_decoder.specs.Prefixes.{refusal_under, under_override, with_repeat, behind_prefix, Small};
+ghost use Rattle.mrc_decoder.specs.Prefixes.{refusal_under, overridden, under_override, with_repeat, behind_prefix, Small};
 
 use mrc_instruction::errors::Refusal;
-use mrc_instruction::instruction::{OperandSet, Repeat, Repeated};
+use mrc_instruction::instruction::{Instruction, OperandSet, Repeat};
 use mrc_instruction::operand::Operand;
 use mrc_instruction::operation::Operation;
 use mrc_instruction::reading::Reading;
@@ -22,112 +20,89 @@ pub fn override_segment(operand: Operand, segment: Segment) -> Operand
         Operand::Indirect(_, size, mode, displacement) => {
             Operand::Indirect(segment, size, mode, displacement)
         }
-        Operand::Register(register) => Operand::Register(register),
-        Operand::Segment(named) => Operand::Segment(named),
-        Operand::Immediate(immediate) => Operand::Immediate(immediate),
-        Operand::Displacement(displacement) => Operand::Displacement(displacement),
-        Operand::SegmentAndOffset(address) => Operand::SegmentAndOffset(address),
+        elsewhere => elsewhere,
     }
 }
-
-// The number of the refusal that passes through an override.
-const TOO_MANY_PREFIXES: u8 = 10;
 
 // A refusal under an override: too many prefixes passes through, and any other is the override's own.
 fn refusal_under(prefix: u8, refusal: Refusal) -> Refusal
     ensures { result ≡ refusal_under prefix refusal }
 {
-    if refusal.number() == TOO_MANY_PREFIXES {
-        refusal
-    } else {
-        Refusal::InvalidPrefix(prefix)
+    match refusal {
+        Refusal::TooManyPrefixes(_) => refusal,
+        _ => Refusal::InvalidPrefix(prefix),
     }
 }
 
-// Whether an operation keeps an override: in reading 2 those that read memory which no operand names, which are told by their numbers.
+// Whether an operation keeps an override: in reading 2 those that read memory which no operand names.
 fn keeps(operation: Operation, reading: Reading) -> bool
     ensures { result ≡ keeps_in reading operation }
 {
     match reading {
         Reading::One => false,
-        Reading::Two => match operation.number() {
-            6 => true, // XLATB
-            46 => true, // MOVSB
-            47 => true, // MOVSW
-            48 => true, // CMPSB
-            49 => true, // CMPSW
-            52 => true, // LODSB
-            53 => true, // LODSW
-            _ => false,
-        },
+        Reading::Two => matches!(
+            operation,
+            Operation::MOVSB
+                | Operation::MOVSW
+                | Operation::CMPSB
+                | Operation::CMPSW
+                | Operation::LODSB
+                | Operation::LODSW
+                | Operation::XLATB
+        ),
     }
 }
 
-// The inner answer under an override: each operand in its segment; where there is none the override is kept, or refused.
+// An instruction under an override: each operand in its segment; where there is none the override is kept, or refused.
+fn overridden(
+    prefix: u8,
+    instruction: Instruction,
+    reading: Reading,
+) -> Result<Instruction, Refusal>
+    ensures { result ≡ overridden reading prefix instruction }
+{
+    let segment = Segment::from_low_bits(prefix / 8);
+    match instruction.operands {
+        OperandSet::None => {
+            if keeps(instruction.operation, reading) {
+                Ok(instruction.keeping(segment))
+            } else {
+                Err(Refusal::InvalidPrefix(prefix))
+            }
+        }
+        OperandSet::Destination(destination) => {
+            let operands = OperandSet::Destination(override_segment(destination, segment));
+            Ok(instruction.on(operands))
+        }
+        OperandSet::DestinationAndSource(destination, source) => {
+            let operands = OperandSet::DestinationAndSource(
+                override_segment(destination, segment),
+                override_segment(source, segment),
+            );
+            Ok(instruction.on(operands))
+        }
+    }
+}
+
+// The inner answer under an override.
 fn under_override(prefix: u8, inner: Answer, reading: Reading) -> Answer
     requires { Small inner }
     ensures { result ≡ under_override reading prefix inner }
 {
-    let segment = Segment::from_low_bits(prefix / 8);
-    match inner {
-        Answer::Decoded {
-            instruction,
-            taken,
-            prefixes,
-        } => {
-            let operands = instruction.operands;
-            match operands {
-                OperandSet::None => {
-                    let operation = instruction.operation;
-                    if keeps(operation, reading) {
-                        return Answer::Decoded {
-                            instruction: instruction.keeping(segment),
-                            taken: taken + 1,
-                            prefixes: prefixes + 1,
-                        };
-                    }
-                    return Answer::Refused {
-                        refusal: Refusal::InvalidPrefix(prefix),
-                        taken: taken + 1,
-                        prefixes: prefixes + 1,
-                    };
-                }
-                OperandSet::Destination(destination) => {
-                    let operands = OperandSet::Destination(override_segment(destination, segment));
-                    Answer::Decoded {
-                        instruction: instruction.on(operands),
-                        taken: taken + 1,
-                        prefixes: prefixes + 1,
-                    }
-                }
-                OperandSet::DestinationAndSource(destination, source) => {
-                    let operands = OperandSet::DestinationAndSource(
-                        override_segment(destination, segment),
-                        override_segment(source, segment),
-                    );
-                    Answer::Decoded {
-                        instruction: instruction.on(operands),
-                        taken: taken + 1,
-                        prefixes: prefixes + 1,
-                    }
-                }
-            }
-        }
-        Answer::Refused {
-            refusal,
-            taken,
-            prefixes,
-        } => Answer::Refused {
-            refusal: refusal_under(prefix, refusal),
-            taken: taken + 1,
-            prefixes: prefixes + 1,
-        },
+    let result = match inner.result {
+        Ok(instruction) => overridden(prefix, instruction, reading),
+        Err(refusal) => Err(refusal_under(prefix, refusal)),
+    };
+    Answer {
+        result,
+        taken: inner.taken + 1,
+        prefixes: inner.prefixes + 1,
     }
 }
 
 // The repeat that a prefix names.
 fn repeat_of(prefix: u8) -> Repeat
-    ensures { Repeated.Some result ≡ repeat_of (some prefix) }
+    ensures { Some result ≡ repeat_of (Some prefix) }
 {
     if prefix == 0xF2 {
         Repeat::NotEqual
@@ -139,33 +114,21 @@ fn repeat_of(prefix: u8) -> Repeat
 // The inner answer under a repeat, which replaces a later one.
 fn with_repeat(prefix: u8, inner: Answer) -> Answer
     requires { Small inner }
-    ensures { result ≡ with_repeat (repeat_of (some prefix)) inner }
+    ensures { result ≡ with_repeat (repeat_of (Some prefix)) inner }
 {
-    let repeat = Repeated::Some(repeat_of(prefix));
-    match inner {
-        Answer::Decoded {
-            instruction,
-            taken,
-            prefixes,
-        } => Answer::Decoded {
-            instruction: instruction.repeated(repeat),
-            taken: taken + 1,
-            prefixes: prefixes + 1,
-        },
-        Answer::Refused {
-            refusal,
-            taken,
-            prefixes,
-        } => Answer::Refused {
-            refusal,
-            taken: taken + 1,
-            prefixes: prefixes + 1,
-        },
+    let repeat = Some(repeat_of(prefix));
+    let result = match inner.result {
+        Ok(instruction) => Ok(instruction.repeated(repeat)),
+        Err(refusal) => Err(refusal),
+    };
+    Answer {
+        result,
+        taken: inner.taken + 1,
+        prefixes: inner.prefixes + 1,
     }
 }
 
-// The inner answer behind a prefix of either kind. It has two callers and so is not built into them: what it keeps of the inner answer costs a step
-// that has no prefix nothing.
+// The inner answer behind a prefix of either kind.
 pub fn behind_prefix(prefix: u8, inner: Answer, reading: Reading) -> Answer
     requires { Small inner }
     ensures { result ≡ behind_prefix reading prefix inner }
@@ -173,5 +136,5 @@ pub fn behind_prefix(prefix: u8, inner: Answer, reading: Reading) -> Answer
     if prefix < 0xF0 {
         return under_override(prefix, inner, reading);
     }
-    return with_repeat(prefix, inner);
+    with_repeat(prefix, inner)
 }
