@@ -8,6 +8,7 @@ use Rattle.std.specs.Prelude.{Option, Some, None}
 use Rattle.mrc_instruction.specs.declared.reading.Reading.TheVariants.{One}
 use Rattle.mrc_instruction.specs.declared.register.Segment.{Segment}
 use Rattle.mrc_instruction.specs.Reader.{Bytes}
+use Rattle.mrc_rules.specs.Answer.{decodes}
 use Rattle.mrc_rules.specs.declared.Answer.{Answer}
 use Rattle.mrc_rules.specs.Prefixes.{is_override, run_of, tail_of, first}
 use Rattle.mrc_rules.specs.Decode.{decode_at}
@@ -23,6 +24,6 @@ pub first_keeps_none : (s : List ℕ) (at budget : ℕ) → Bytes s → (record_
 first_keeps_none s at budget h = go (decode_at One s at budget) refl
   where
     go : (d : Answer) → decode_at One s at budget ≡ d → (record_of d).body.kept ≡ 0
-    go (Answer.Decoded i n p) e =
+    go (decodes i n p) e =
         ap kept_code (override_kept One s at budget i n p h e ∙ none_kept (first is_override (run_of (drop at s))) (get_or (tail_of (drop at s)) 0 0))
     go (Answer.Refused r n p) e = refl

@@ -1,10 +1,9 @@
 -- Rule 15.1: the record of an answer as C and Rust get it: its fields, and the five machine words that they are packed in. The third operand has its
 -- place, and is 0.
-use Rattle.std.specs.Prelude.{ℕ, ◌+◌, ◌<◌, ◌≡◌, List, [], ◌∷◌, get_or}
+use Rattle.std.specs.Prelude.{ℕ, ◌+◌, ◌<◌, ◌≡◌, List, [], ◌∷◌, get_or, Option, Some, None}
 use Rattle.mrc_instruction.specs.declared.instruction.Repeat.{Repeat}
-use Rattle.mrc_instruction.specs.declared.instruction.Repeated.{Repeated}
 use Rattle.mrc_instruction.specs.declared.instruction.Reach.{Reach}
-use Rattle.mrc_instruction.specs.declared.instruction.Kept.{Kept}
+use Rattle.mrc_instruction.specs.declared.register.Segment.{Segment}
 use Rattle.mrc_instruction.specs.declared.instruction.OperandSet.{OperandSet}
 use Rattle.mrc_instruction.specs.Widths.{words}
 use Rattle.mrc_instruction.specs.Register.{segment_code}
@@ -114,10 +113,10 @@ head_by refusal byte taken prefixes = record { refusal = refusal; byte = byte; t
 abbrev pub head_of : Answer → Head
 head_of a = head_by (number a) (byte a) (taken a) (prefixes a)
 
-abbrev pub repeat_code : Repeated → ℕ
-repeat_code Repeated.None = 0
-repeat_code (Repeated.Some Repeat.Equal) = 1
-repeat_code (Repeated.Some Repeat.NotEqual) = 2
+abbrev pub repeat_code : Option Repeat → ℕ
+repeat_code None = 0
+repeat_code (Some Repeat.Equal) = 1
+repeat_code (Some Repeat.NotEqual) = 2
 
 abbrev pub reach_code : Reach → ℕ
 reach_code Reach.Neither = 0
@@ -125,9 +124,9 @@ reach_code Reach.Near = 1
 reach_code Reach.Far = 2
 
 -- the segment of the override that is kept, counted from 1
-abbrev pub kept_code : Kept → ℕ
-kept_code Kept.None = 0
-kept_code (Kept.Some segment) = 1 + segment_code segment
+abbrev pub kept_code : Option Segment → ℕ
+kept_code None = 0
+kept_code (Some segment) = 1 + segment_code segment
 
 abbrev pub body_by : ℕ → ℕ → ℕ → ℕ → ℕ → ℕ → Body
 body_by operation repeat reach kept written operands =

@@ -3,30 +3,29 @@ ghost use Rattle.std.specs.Prelude.{◌<◌};
 ghost use Rattle.mrc_instruction.specs.Widths.{words};
 ghost use Rattle.mrc_instruction.specs.Reader.{read_at};
 ghost use Rattle.mrc_instruction.specs.Mrrm.{a_modrm};
-ghost use Rattle.mrc_instruction.specs.Read.{mrrm_read, mrrm_values};
+ghost use Rattle.mrc_instruction.specs.Read.{mrrm_read, read_values};
 ghost use Rattle.mrc_c.specs.Operands.{OperandHeld};
 ghost use Rattle.mrc_c.specs.Modrm.{named_fields, modrm_by, ModrmHeld, modrm_of, ModrmWritten};
 
 use crate::operands::fields_word;
 use crate::words::{FROM_1, FROM_2, FROM_4, FROM_5};
-use mrc_instruction::mrrm::{MrrmRead, RegisterOrMemory, read_mrrm};
+use mrc_instruction::mrrm::{RegisterOrMemory, WrittenModRM, read_mrrm};
+use mrc_instruction::read::Read;
 use mrc_instruction::signed::{unsigned_byte, unsigned_word};
 
 fn named_word(named: RegisterOrMemory) -> u64
     ensures { OperandHeld (named_fields named) result }
 {
     match named {
-        RegisterOrMemory::Direct(offset) => return fields_word(1, 0, 0, 0, offset, 0),
-        RegisterOrMemory::Indirect(mode) => return fields_word(2, 0, mode.into_encoding(), 0, 0, 0),
+        RegisterOrMemory::Direct(offset) => fields_word(1, 0, 0, 0, offset, 0),
+        RegisterOrMemory::Indirect(mode) => fields_word(2, 0, mode.into(), 0, 0, 0),
         RegisterOrMemory::DisplacementByte(mode, d) => {
-            return fields_word(3, 0, mode.into_encoding(), 0, unsigned_byte(d) as u16, 0);
+            fields_word(3, 0, mode.into(), 0, unsigned_byte(d).into(), 0)
         }
         RegisterOrMemory::DisplacementWord(mode, d) => {
-            return fields_word(4, 0, mode.into_encoding(), 0, unsigned_word(d), 0);
+            fields_word(4, 0, mode.into(), 0, unsigned_word(d), 0)
         }
-        RegisterOrMemory::Register(register) => {
-            return fields_word(5, register.into_encoding(), 0, 0, 0, 0);
-        }
+        RegisterOrMemory::Register(register) => fields_word(5, register.into(), 0, 0, 0, 0),
     }
 }
 
@@ -41,21 +40,28 @@ fn modrm_word(refusal: u8, byte: u8, taken: usize, register: u8, written: u8) ->
         + FROM_5 * (written as u64)
 }
 
-fn modrm_record(read: MrrmRead) -> [u64; 2]
-    requires { (mrrm_values read).taken < words }
+fn modrm_record(read: Read<WrittenModRM>) -> [u64; 2]
+    requires { (read_values read).taken < words }
     ensures { ModrmWritten (modrm_of read) result }
 {
     match read {
-        MrrmRead::Got(mrrm, byte, written, taken) => {
-            let register = mrrm.register;
-            let named = mrrm.register_or_memory;
-            return [
-                modrm_word(0, byte, taken, register.into_encoding(), written),
-                named_word(named),
-            ];
+        Ok(modrm) => {
+            let WrittenModRM {
+                mrrm,
+                byte,
+                written,
+            } = modrm.value;
+            [
+                modrm_word(0, byte, modrm.taken, mrrm.register.into(), written),
+                named_word(mrrm.register_or_memory),
+            ]
         }
-        MrrmRead::Refused(refusal, taken) => {
-            return [modrm_word(refusal.number(), refusal.byte(), taken, 0, 0), 0];
+        Err(stop) => {
+            let refusal = stop.refusal;
+            [
+                modrm_word(refusal.number(), refusal.byte(), stop.taken, 0, 0),
+                0,
+            ]
         }
     }
 }

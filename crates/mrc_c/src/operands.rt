@@ -2,8 +2,9 @@
 ghost use Rattle.mrc_c.specs.Operands.{OperandHeld, fields_of, indirect_fields, immediate_fields, displacement_fields, operand_fields};
 
 use crate::words::{FROM_1, FROM_2, FROM_3, FROM_4, FROM_6};
+use mrc_instruction::address::Address;
 use mrc_instruction::operand::{AddressingMode, Displacement, Immediate, Operand, OperandSize};
-use mrc_instruction::register::Segment;
+use mrc_instruction::register::{Segment, SizedRegisterEncoding};
 use mrc_instruction::signed::{unsigned_byte, unsigned_word};
 
 pub fn fields_word(kind: u8, named: u8, mode: u8, size: u8, value: u16, far_segment: u16) -> u64
@@ -25,13 +26,13 @@ fn indirect_word(
 ) -> u64
     ensures { OperandHeld (indirect_fields segment mode displacement size) result }
 {
-    let named = segment.into_encoding();
-    let by = mode.into_encoding();
-    let wide = size.into_encoding();
+    let named = segment.into();
+    let by = mode.into();
+    let wide = size.into();
     match displacement {
-        Displacement::None => return fields_word(2, named, by, wide, 0, 0),
-        Displacement::Byte(d) => return fields_word(3, named, by, wide, unsigned_byte(d) as u16, 0),
-        Displacement::Word(d) => return fields_word(4, named, by, wide, unsigned_word(d), 0),
+        Displacement::None => fields_word(2, named, by, wide, 0, 0),
+        Displacement::Byte(d) => fields_word(3, named, by, wide, unsigned_byte(d).into(), 0),
+        Displacement::Word(d) => fields_word(4, named, by, wide, unsigned_word(d), 0),
     }
 }
 
@@ -39,8 +40,8 @@ fn immediate_word(value: Immediate) -> u64
     ensures { OperandHeld (immediate_fields value) result }
 {
     match value {
-        Immediate::Byte(byte) => return fields_word(7, 0, 0, 0, byte as u16, 0),
-        Immediate::Word(word) => return fields_word(8, 0, 0, 0, word, 0),
+        Immediate::Byte(byte) => fields_word(7, 0, 0, 0, byte.into(), 0),
+        Immediate::Word(word) => fields_word(8, 0, 0, 0, word, 0),
     }
 }
 
@@ -48,9 +49,9 @@ fn displacement_word(value: Displacement) -> u64
     ensures { OperandHeld (displacement_fields value) result }
 {
     match value {
-        Displacement::None => return fields_word(9, 0, 0, 0, 0, 0),
-        Displacement::Byte(d) => return fields_word(10, 0, 0, 0, unsigned_byte(d) as u16, 0),
-        Displacement::Word(d) => return fields_word(11, 0, 0, 0, unsigned_word(d), 0),
+        Displacement::None => fields_word(9, 0, 0, 0, 0, 0),
+        Displacement::Byte(d) => fields_word(10, 0, 0, 0, unsigned_byte(d).into(), 0),
+        Displacement::Word(d) => fields_word(11, 0, 0, 0, unsigned_word(d), 0),
     }
 }
 
@@ -59,25 +60,19 @@ pub fn operand_word(operand: Operand) -> u64
 {
     match operand {
         Operand::Direct(segment, size, offset) => {
-            let named = segment.into_encoding();
-            let wide = size.into_encoding();
-            return fields_word(1, named, 0, wide, offset, 0);
+            fields_word(1, segment.into(), 0, size.into(), offset, 0)
         }
         Operand::Indirect(segment, size, mode, displacement) => {
-            return indirect_word(segment, mode, displacement, size);
+            indirect_word(segment, mode, displacement, size)
         }
-        Operand::Register(register) => {
-            let named = register.0;
-            let size = register.1;
-            return fields_word(5, named.into_encoding(), 0, size.into_encoding(), 0, 0);
+        Operand::Register(SizedRegisterEncoding(register, size)) => {
+            fields_word(5, register.into(), 0, size.into(), 0, 0)
         }
-        Operand::Segment(segment) => return fields_word(6, segment.into_encoding(), 0, 0, 0, 0),
-        Operand::Immediate(value) => return immediate_word(value),
-        Operand::Displacement(value) => return displacement_word(value),
-        Operand::SegmentAndOffset(address) => {
-            let segment = address.segment;
-            let offset = address.offset;
-            return fields_word(12, 0, 0, 0, offset, segment);
+        Operand::Segment(segment) => fields_word(6, segment.into(), 0, 0, 0, 0),
+        Operand::Immediate(value) => immediate_word(value),
+        Operand::Displacement(value) => displacement_word(value),
+        Operand::SegmentAndOffset(Address { segment, offset }) => {
+            fields_word(12, 0, 0, 0, offset, segment)
         }
     }
 }

@@ -6,7 +6,8 @@ ghost use Rattle.mrc_c.specs.Record.{HeadHeld, BodyHeld, head_by, body_by, repea
 
 use crate::operands::operand_word;
 use crate::words::{FROM_1, FROM_2, FROM_3, FROM_4, FROM_5};
-use mrc_instruction::instruction::{Kept, OperandSet, Reach, Repeat, Repeated};
+use mrc_instruction::instruction::{OperandSet, Reach, Repeat};
+use mrc_instruction::register::Segment;
 use mrc_rules::Answer;
 
 fn head_word(refusal: u8, byte: u8, taken: usize, prefixes: usize) -> u64
@@ -27,15 +28,13 @@ fn body_word(operation: u8, repeat: u8, reach: u8, kept: u8, written: u8, operan
         + FROM_5 * (operands as u64)
 }
 
-fn repeat_code(repeated: Repeated) -> u8
-    ensures { result ≡ repeat_code repeated }
+fn repeat_code(repeat: Option<Repeat>) -> u8
+    ensures { result ≡ repeat_code repeat }
 {
-    match repeated {
-        Repeated::None => 0,
-        Repeated::Some(repeat) => match repeat {
-            Repeat::Equal => 1,
-            Repeat::NotEqual => 2,
-        },
+    match repeat {
+        None => 0,
+        Some(Repeat::Equal) => 1,
+        Some(Repeat::NotEqual) => 2,
     }
 }
 
@@ -49,12 +48,12 @@ fn reach_code(reach: Reach) -> u8
     }
 }
 
-fn kept_code(kept: Kept) -> u8
+fn kept_code(kept: Option<Segment>) -> u8
     ensures { result ≡ kept_code kept }
 {
     match kept {
-        Kept::None => 0,
-        Kept::Some(segment) => 1 + segment.into_encoding(),
+        None => 0,
+        Some(segment) => 1 + u8::from(segment),
     }
 }
 
@@ -63,54 +62,41 @@ pub fn record_of(answer: Answer) -> [u64; 5]
     requires { (taken answer < words) × (prefixes answer < words) }
     ensures { Written (record_of answer) result }
 {
-    match answer {
-        Answer::Decoded {
-            instruction,
-            taken,
-            prefixes,
-        } => {
-            let operation = instruction.operation;
-            let operands = instruction.operands;
-            let repeat = instruction.repeat;
-            let reach = instruction.reach;
-            let kept = instruction.kept;
-            let written = instruction.written;
+    let Answer {
+        result,
+        taken,
+        prefixes,
+    } = answer;
+    match result {
+        Ok(instruction) => {
             let head = head_word(0, 0, taken, prefixes);
-            let number = operation.number();
-            let code = repeat_code(repeat);
-            let distance = reach_code(reach);
-            let held = kept_code(kept);
-            match operands {
-                OperandSet::None => return [
+            let body = |operands| {
+                body_word(
+                    instruction.operation.number(),
+                    repeat_code(instruction.repeat),
+                    reach_code(instruction.reach),
+                    kept_code(instruction.kept),
+                    instruction.written,
+                    operands,
+                )
+            };
+            match instruction.operands {
+                OperandSet::None => [head, body(0), 0, 0, 0],
+                OperandSet::Destination(destination) => {
+                    [head, body(1), operand_word(destination), 0, 0]
+                }
+                OperandSet::DestinationAndSource(destination, source) => [
                     head,
-                    body_word(number, code, distance, held, written, 0),
-                    0,
-                    0,
+                    body(2),
+                    operand_word(destination),
+                    operand_word(source),
                     0,
                 ],
-                OperandSet::Destination(destination) => {
-                    let body = body_word(number, code, distance, held, written, 1);
-                    return [head, body, operand_word(destination), 0, 0];
-                }
-                OperandSet::DestinationAndSource(destination, source) => {
-                    let body = body_word(number, code, distance, held, written, 2);
-                    return [
-                        head,
-                        body,
-                        operand_word(destination),
-                        operand_word(source),
-                        0,
-                    ];
-                }
             }
         }
-        Answer::Refused {
-            refusal,
-            taken,
-            prefixes,
-        } => {
+        Err(refusal) => {
             let head = head_word(refusal.number(), refusal.byte(), taken, prefixes);
-            return [head, 0, 0, 0, 0];
+            [head, 0, 0, 0, 0]
         }
     }
 }

@@ -13,21 +13,16 @@ use mrc_rules::Answer;
 pub fn mrc_step(s: &[u8], at: usize, budget: u8, reading: u8) -> u64
     ensures { result ≡ step_code (decode_at (reading_of reading) s.now at budget) }
 {
-    match decode_instruction(s, at, budget, reading_of(reading)) {
-        Answer::Decoded {
-            instruction: _,
-            taken,
-            prefixes,
-        } => ((taken % WORDS) as u64) + (WORDS as u64) * ((prefixes % WORDS) as u64),
-        Answer::Refused {
-            refusal,
-            taken,
-            prefixes,
-        } => {
-            let number = refusal.number() as u64;
-            ((taken % WORDS) as u64)
-                + (WORDS as u64) * ((prefixes % WORDS) as u64)
-                + (DOUBLE_WORDS as u64) * number
-        }
-    }
+    let Answer {
+        result,
+        taken,
+        prefixes,
+    } = decode_instruction(s, at, budget, reading_of(reading));
+    let number = match result {
+        Ok(_) => 0,
+        Err(refusal) => refusal.number(),
+    };
+    ((taken % WORDS) as u64)
+        + (WORDS as u64) * ((prefixes % WORDS) as u64)
+        + (DOUBLE_WORDS as u64) * u64::from(number)
 }

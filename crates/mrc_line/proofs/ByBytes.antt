@@ -1,13 +1,15 @@
 -- A line has a kept override, FAR and written zeros where the bytes say so: the override that an instruction keeps, how far it goes and its displacement
 -- bytes are what specs/Kept, specs/Reaches and specs/Written of mrc_rules find by the prefixes and the bytes behind them.
 -- Assumes nothing.
+use Rattle.std.specs.Prelude.{Option}
 use Rattle.std.proofs.Common.{◌≡◌, ℕ, ◌-◌, List, ◌++◌, take, drop, ap, ◌∙◌}
 use Rattle.mrc_instruction.specs.declared.reading.Reading.{Reading}
-use Rattle.mrc_instruction.specs.declared.instruction.Kept.{Kept}
+use Rattle.mrc_instruction.specs.declared.register.Segment.{Segment}
 use Rattle.mrc_instruction.specs.declared.instruction.Reach.{Reach}
 use Rattle.mrc_instruction.specs.declared.instruction.Instruction.{Instruction}
 use Rattle.mrc_instruction.specs.Reader.{Bytes}
 use Rattle.mrc_names.specs.Names.{name_of}
+use Rattle.mrc_rules.specs.Answer.{decodes}
 use Rattle.mrc_rules.specs.declared.Answer.{Answer}
 use Rattle.mrc_rules.specs.Prefixes.{is_override, run_of, tail_of, first}
 use Rattle.mrc_rules.specs.Decode.{decode_at}
@@ -20,12 +22,12 @@ use Rattle.mrc_line.specs.Operands.{operands_text}
 use Rattle.mrc_line.specs.Line.{head_text, repeat_text, kept_text, reach_text, instruction_text, step_text, line_text, line_end, budget}
 
 -- the line of an instruction, by the override that is kept, by a reach and by the displacement bytes written
-abbrev pub text_by : Reading → List ℕ → ℕ → Instruction → ℕ → Kept → Reach → ℕ → List ℕ
+abbrev pub text_by : Reading → List ℕ → ℕ → Instruction → ℕ → Option Segment → Reach → ℕ → List ℕ
 text_by x s at i n kept reach written =
     head_text at (take n (drop at s))
     ++ ((repeat_text i.repeat ++ (kept_text kept ++ (name_of i.operation ++ (reach_text reach ++ operands_text x written i.operation at n i.operands)))) ++ line_end)
 
-pub by_the_bytes : (x : Reading) (s : List ℕ) (at : ℕ) (i : Instruction) (n p : ℕ) → Bytes s → decode_at x s at budget ≡ Answer.Decoded i n p
+pub by_the_bytes : (x : Reading) (s : List ℕ) (at : ℕ) (i : Instruction) (n p : ℕ) → Bytes s → decode_at x s at budget ≡ decodes i n p
     → line_text x s at
     ≡ text_by x s at i n (kept_of x (first is_override (run_of (drop at s))) (byte_at (tail_of (drop at s)) 0)) (reach_of (tail_of (drop at s)))
     (written_of x (take (n - p) (tail_of (drop at s))))

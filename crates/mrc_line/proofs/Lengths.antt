@@ -1,7 +1,10 @@
 -- No line is longer than `longest`: each text's length is computed case by case, and added up along the line.
 -- Assumes nothing.
+use Rattle.std.specs.Prelude.{Result, Ok, Err, Option, Some, None}
 use Rattle.std.proofs.Common.{◌≡◌, ℕ, zero, suc, ◌-◌, ◌≤◌, List, [], ◌∷◌, ◌++◌, length, get_or, take, drop, replicate, refl, arith, lit≤, length-append, length-take}
 use lib.ListN.{length-replicate}
+use Rattle.mrc_instruction.specs.declared.instruction.Instruction.{Instruction}
+use Rattle.mrc_instruction.specs.declared.errors.Refusal.{Refusal}
 use Rattle.mrc_instruction.specs.declared.reading.Reading.{Reading}
 use Rattle.mrc_instruction.specs.declared.reading.Reading.TheVariants.{One, Two}
 use Rattle.mrc_instruction.specs.declared.register.RegisterEncoding.{RegisterEncoding}
@@ -17,8 +20,6 @@ use Rattle.mrc_instruction.specs.declared.operand.Immediate.{Immediate}
 use Rattle.mrc_instruction.specs.declared.operand.Operand.{Operand}
 use Rattle.mrc_instruction.specs.declared.instruction.OperandSet.{OperandSet}
 use Rattle.mrc_instruction.specs.declared.instruction.Repeat.{Repeat}
-use Rattle.mrc_instruction.specs.declared.instruction.Repeated.{Repeated}
-use Rattle.mrc_instruction.specs.declared.instruction.Kept.{Kept}
 use Rattle.mrc_instruction.specs.declared.instruction.Reach.{Reach}
 use Rattle.mrc_instruction.specs.declared.operation.Operation.{Operation}
 use Rattle.mrc_names.specs.Names.{name_of}
@@ -29,7 +30,7 @@ use Rattle.mrc_line.specs.Text.{bytes, hex4, pairs, padded, shown, field_width}
 use Rattle.mrc_line.specs.declared.printed.Printed.{Printed}
 use Rattle.mrc_line.specs.Printed.{alone, beside}
 use Rattle.mrc_line.specs.Operands.{register_text, segment_text, mode_text, size_text, zeros_text, offset_text, immediate_text, memory_text, printed_text, operand_text, operands_text}
-use Rattle.mrc_line.specs.Line.{head_text, repeat_text, kept_text, reach_text, instruction_text, body_text, step_taken, step_text, line_text, longest, budget}
+use Rattle.mrc_line.specs.Line.{head_text, repeat_text, kept_text, reach_text, instruction_text, result_text, body_text, step_taken, step_text, line_text, longest, budget}
 use Rattle.mrc_line.proofs.Put.{pairs_length}
 
 register : (r : RegisterEncoding) (size : OperandSize) → length (register_text r size) ≡ 2
@@ -121,29 +122,32 @@ head start taken =
     let p = pairs (take shown taken) in
     omega (arith, pairs_length (take shown taken), length-take shown taken, length-append p (replicate (field_width - length p) 32), length-replicate {A = ℕ} (field_width - length p) 32, length-append (padded field_width p) (bytes "  "))
 
-repeated : (r : Repeated) → length (repeat_text r) ≤ 6
-repeated Repeated.None = lit≤ tt
-repeated (Repeated.Some Repeat.Equal) = lit≤ tt
-repeated (Repeated.Some Repeat.NotEqual) = lit≤ tt
+repeated : (r : Option Repeat) → length (repeat_text r) ≤ 6
+repeated None = lit≤ tt
+repeated (Some Repeat.Equal) = lit≤ tt
+repeated (Some Repeat.NotEqual) = lit≤ tt
 
-kept : (k : Kept) → length (kept_text k) ≤ 4
-kept Kept.None = lit≤ tt
-kept (Kept.Some s) = omega (arith, segment s, length-append (segment_text s) (bytes ": "))
+kept : (k : Option Segment) → length (kept_text k) ≤ 4
+kept None = lit≤ tt
+kept (Some s) = omega (arith, segment s, length-append (segment_text s) (bytes ": "))
 
 reach : (r : Reach) → length (reach_text r) ≤ 4
 reach Reach.Neither = lit≤ tt
 reach Reach.Near = lit≤ tt
 reach Reach.Far = lit≤ tt
 
-body : (x : Reading) (start b : ℕ) (a : Answer) → length (body_text x start b a) ≤ 63
+result : (x : Reading) (start n b : ℕ) (r : Result Instruction Refusal) → length (result_text x start n b r) ≤ 63
 unfolding instruction_text
-body x start b (Answer.Decoded i n p) =
+result x start n b (Ok i) =
     let o = operands_text x i.written i.operation start n i.operands in
     let f = reach_text i.reach in
     let m = name_of i.operation in
     let k = kept_text i.kept in
     omega (arith, repeated i.repeat, kept i.kept, six_at_most i.operation, reach i.reach, operands x i.written i.operation start n i.operands, length-append (repeat_text i.repeat) (k ++ (m ++ (f ++ o))), length-append k (m ++ (f ++ o)), length-append m (f ++ o), length-append f o)
-body x start b (Answer.Refused e n p) = lit≤ tt
+result x start n b (Err e) = lit≤ tt
+
+body : (x : Reading) (start b : ℕ) (a : Answer) → length (body_text x start b a) ≤ 63
+body x start b a = result x start a.taken b a.result
 
 step : (x : Reading) (s : List ℕ) (at : ℕ) (a : Answer) → length (step_text x s at a) ≤ longest
 unfolding step_text

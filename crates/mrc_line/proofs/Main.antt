@@ -11,6 +11,7 @@ use Rattle.mrc_instruction.specs.declared.operation.Operation.TheVariants.{RET}
 use Rattle.mrc_instruction.specs.Promise.{ExactlyOne}
 use Rattle.mrc_instruction.specs.Reader.{Bytes}
 use Rattle.mrc_names.specs.Names.{name_of}
+use Rattle.mrc_rules.specs.Answer.{decodes}
 use Rattle.mrc_rules.specs.declared.Answer.{Answer}
 use Rattle.mrc_rules.specs.Prefixes.{is_override, run_of, tail_of, first}
 use Rattle.mrc_rules.specs.Decode.{decode_at}
@@ -69,7 +70,7 @@ module _ (x : Reading) where
   -- a kept override stands between repeat and name, and FAR between name and operands, exactly where the bytes say so: by the first override, the first
   -- byte behind the prefixes, and reg; and an operand in memory is printed by the bytes between ModRM and immediate
   pub printed_by_the_bytes :
-      (image : List ℕ) (at : ℕ) (i : Instruction) (n p : ℕ) → Bytes image → decode_at x image at budget ≡ Answer.Decoded i n p →
+      (image : List ℕ) (at : ℕ) (i : Instruction) (n p : ℕ) → Bytes image → decode_at x image at budget ≡ decodes i n p →
       let kept = kept_text (kept_of x (first is_override (run_of (drop at image))) (byte_at (tail_of (drop at image)) 0)) in
       let far = reach_text (reach_of (tail_of (drop at image))) in
       let written = written_of x (take (n - p) (tail_of (drop at image))) in

@@ -16,7 +16,7 @@ use Rattle.mrc_instruction.specs.Signed.{signed_word}
 use Rattle.mrc_instruction.specs.Reader.{a_byte, a_word}
 use Rattle.mrc_instruction.proofs.Operations.{operations_both_ways}
 use Rattle.mrc_instruction.proofs.Complement.{unsigned_back}
-use Rattle.mrc_rules.specs.declared.Answer.{Answer}
+use Rattle.mrc_rules.specs.Answer.{decodes}
 use Rattle.mrc_rules.specs.Forms.{one}
 use Rattle.mrc_rules.specs.Table.{rows, row_of}
 use Rattle.mrc_rules.specs.Decode.{decode_at}
@@ -49,7 +49,7 @@ module _ (s : List ℕ) (at low high : ℕ) (l : List ℕ) (low_byte : low < 256
 
   -- an instruction of three bytes that prints as a name and its word
   listed :
-      (x : Reading) (name : List ℕ) (opcode : ℕ) (i : Instruction) → There opcode → decode_at x s at budget ≡ Answer.Decoded i 3 0 →
+      (x : Reading) (name : List ℕ) (opcode : ℕ) (i : Instruction) → There opcode → decode_at x s at budget ≡ decodes i 3 0 →
       instruction_text x at 3 i ≡ name ++ hex4 (low + 256 * high) → line_text x s at ≡ text name opcode
   unfolding line_text step_text
   listed x name opcode i there decoded printed =

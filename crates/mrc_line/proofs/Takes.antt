@@ -2,9 +2,12 @@
 -- bytes after its prefixes, of which the budget allows fifteen.
 -- Assumes nothing.
 use Rattle.std.proofs.Common.{◌≡◌, ℕ, ◌+◌, ◌<◌, ◌≤◌, List, length, refl, ap, arith}
+use Rattle.std.specs.Prelude.{Result, Ok, Err}
+use Rattle.mrc_instruction.specs.declared.errors.Refusal.{Refusal}
+use Rattle.mrc_instruction.specs.declared.instruction.Instruction.{Instruction}
 use Rattle.mrc_instruction.specs.declared.reading.Reading.{Reading}
 use Rattle.mrc_rules.specs.declared.Answer.{Answer}
-use Rattle.mrc_rules.specs.Answer.{taken}
+use Rattle.mrc_rules.specs.Answer.{answer, taken}
 use Rattle.mrc_rules.specs.Decode.{rules, decode_at}
 use Rattle.mrc_rules.proofs.Order.{taken_left}
 use Rattle.mrc_rules.proofs.Counting.{budget_kept}
@@ -18,16 +21,17 @@ pub record Takes (s : List ℕ) (at : ℕ) (n : ℕ) : Type 0 where
   pub inside : at + n ≤ length s
 
 module _ (x : Reading) where
-  by_answer : (s : List ℕ) (at : ℕ) → at < length s → (a : Answer) → decode_at x s at budget ≡ a → Takes s at (step_taken a)
-  by_answer s at h (Answer.Decoded i n p) e =
+  by_result : (s : List ℕ) (at : ℕ) → at < length s → (r : Result Instruction Refusal) (n p : ℕ) → decode_at x s at budget ≡ answer r n p
+      → Takes s at (step_taken (answer r n p))
+  by_result s at h (Ok i) n p e =
       let l = length_rule x s at budget i n p e in
       let b = budget_kept x s at budget i n p e in
       let t : taken (decode_at x s at budget) ≡ n = ap taken e in
       record { some = omega arith; few = omega arith; inside = omega (arith, taken_left (rules x) s at budget) }
-  by_answer s at h (Answer.Refused r n p) e = record { some = omega arith; few = omega arith; inside = omega arith }
+  by_result s at h (Err r) n p e = record { some = omega arith; few = omega arith; inside = omega arith }
 
   pub step_takes : (s : List ℕ) (at : ℕ) → at < length s → Takes s at (step_taken (decode_at x s at budget))
-  step_takes s at h = by_answer s at h (decode_at x s at budget) refl
+  step_takes s at h = let d = decode_at x s at budget in by_result s at h d.result d.taken d.prefixes refl
 
   pub line_takes : (s : List ℕ) (at : ℕ) → at < length s → Takes s at (line_taken x s at)
   unfolding line_taken

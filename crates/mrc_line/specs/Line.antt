@@ -1,8 +1,7 @@
 -- Section 12: the fields of a line in order, and what a line call answers, in numbers too.
-use Rattle.std.specs.Prelude.{◌≡◌, ℕ, cond, List, [], ◌∷◌, ◌++◌, length, take, drop, ◌==◌, nat_lt, slice_index}
+use Rattle.std.specs.Prelude.{◌≡◌, ℕ, cond, List, [], ◌∷◌, ◌++◌, length, take, drop, ◌==◌, nat_lt, slice_index, is_ok, Result, Ok, Err, Option, Some, None}
 use Rattle.mrc_instruction.specs.declared.instruction.Repeat.{Repeat}
-use Rattle.mrc_instruction.specs.declared.instruction.Repeated.{Repeated}
-use Rattle.mrc_instruction.specs.declared.instruction.Kept.{Kept}
+use Rattle.mrc_instruction.specs.declared.register.Segment.{Segment}
 use Rattle.mrc_instruction.specs.declared.instruction.Reach.{Reach}
 use Rattle.mrc_instruction.specs.declared.instruction.Instruction.{Instruction}
 use Rattle.mrc_instruction.specs.declared.errors.Refusal.{Refusal}
@@ -21,15 +20,15 @@ unfoldable pub head_text : ℕ → List ℕ → List ℕ
 head_text start taken = hex4 start ++ (bytes "  " ++ (padded field_width (pairs (take shown taken)) ++ bytes "  "))
 
 -- rule 12.2: the repeat
-abbrev pub repeat_text : Repeated → List ℕ
-repeat_text Repeated.None = []
-repeat_text (Repeated.Some Repeat.Equal) = bytes "REPE "
-repeat_text (Repeated.Some Repeat.NotEqual) = bytes "REPNE "
+abbrev pub repeat_text : Option Repeat → List ℕ
+repeat_text None = []
+repeat_text (Some Repeat.Equal) = bytes "REPE "
+repeat_text (Some Repeat.NotEqual) = bytes "REPNE "
 
 -- rule 12.2: an override that the instruction keeps
-abbrev pub kept_text : Kept → List ℕ
-kept_text Kept.None = []
-kept_text (Kept.Some segment) = segment_text segment ++ bytes ": "
+abbrev pub kept_text : Option Segment → List ℕ
+kept_text None = []
+kept_text (Some segment) = segment_text segment ++ bytes ": "
 
 -- rule 12.2: what is far says so behind its name
 abbrev pub reach_text : Reach → List ℕ
@@ -51,20 +50,21 @@ instruction_text x start taken i =
 abbrev pub db_text : ℕ → List ℕ
 db_text b = bytes "DB " ++ hex2 b
 
--- rules 12.2 and 12.7: what stands behind the byte field, by what was decoded and the first byte
+-- rules 12.2 and 12.7: what stands behind the byte field, by what was decoded, the bytes taken and the first of them
+abbrev pub result_text : Reading → ℕ → ℕ → ℕ → Result Instruction Refusal → List ℕ
+result_text x start n b (Ok i) = instruction_text x start n i
+result_text x start n b (Err e) = db_text b
+
 abbrev pub body_text : Reading → ℕ → ℕ → Answer → List ℕ
-body_text x start b (Answer.Decoded i n p) = instruction_text x start n i
-body_text x start b (Answer.Refused e n p) = db_text b
+body_text x start b a = result_text x start a.taken b a.result
 
 -- rules 12.7 and 12.9: the bytes that a line accounts for
 abbrev pub step_taken : Answer → ℕ
-step_taken (Answer.Decoded i n p) = n
-step_taken (Answer.Refused e n p) = 1
+step_taken a = cond (is_ok a.result) a.taken 1
 
 -- the prefixes that a line shows: the instruction's, and none with a byte that is not decoded
 abbrev pub step_prefixes : Answer → ℕ
-step_prefixes (Answer.Decoded i n p) = p
-step_prefixes (Answer.Refused e n p) = 0
+step_prefixes a = cond (is_ok a.result) a.prefixes 0
 
 -- the line of what was decoded at a position of an image
 unfoldable pub step_text : Reading → List ℕ → ℕ → Answer → List ℕ

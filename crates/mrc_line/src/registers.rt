@@ -49,7 +49,7 @@ pub fn put_register(buf: &mut [u8], at: usize, register: SizedRegisterEncoding) 
 {
     let encoding = register.0;
     let size = register.1;
-    let name = register_name(8 * size.into_encoding() + encoding.into_encoding());
+    let name = register_name(8 * u8::from(size) + u8::from(encoding));
     put_bytes(buf, at, &name)
 }
 

@@ -8,7 +8,8 @@ use crate::names::put_name;
 use crate::operands::put_operands;
 use crate::registers::put_segment;
 use crate::text::{SHOWN, put_bytes, put_field, put_hex2, put_spaces};
-use mrc_instruction::instruction::{Instruction, Kept, Reach, Repeat, Repeated};
+use mrc_instruction::instruction::{Instruction, Reach, Repeat};
+use mrc_instruction::register::Segment;
 use mrc_instruction::reading::Reading;
 use mrc_rules::Answer;
 
@@ -31,31 +32,27 @@ pub fn put_head(buf: &mut [u8], at: usize, start: u16, taken: &[u8]) -> usize
     put_spaces(buf, d, 2)
 }
 
-fn put_repeat(buf: &mut [u8], at: usize, repeated: Repeated) -> usize
+fn put_repeat(buf: &mut [u8], at: usize, repeat: Option<Repeat>) -> usize
     requires { at + 6 ≤ length buf.old }
-    ensures { Put 6 buf.old at (repeat_text repeated) buf.new result }
+    ensures { Put 6 buf.old at (repeat_text repeat) buf.new result }
 {
-    match repeated {
-        Repeated::None => at,
-        Repeated::Some(repeat) => match repeat {
-            Repeat::Equal => put_bytes(buf, at, b"REPE "),
-            Repeat::NotEqual => put_bytes(buf, at, b"REPNE "),
-        },
+    match repeat {
+        None => at,
+        Some(Repeat::Equal) => put_bytes(buf, at, b"REPE "),
+        Some(Repeat::NotEqual) => put_bytes(buf, at, b"REPNE "),
     }
 }
 
 // The override that an instruction keeps, with its colon.
-fn put_kept(buf: &mut [u8], at: usize, kept: Kept) -> usize
+fn put_kept(buf: &mut [u8], at: usize, kept: Option<Segment>) -> usize
     requires { at + 4 ≤ length buf.old }
     ensures { Put 4 buf.old at (kept_text kept) buf.new result }
 {
-    match kept {
-        Kept::None => at,
-        Kept::Some(segment) => {
-            let c = put_segment(buf, at, segment);
-            put_bytes(buf, c, b": ")
-        }
-    }
+    let Some(segment) = kept else {
+        return at;
+    };
+    let c = put_segment(buf, at, segment);
+    put_bytes(buf, c, b": ")
 }
 
 // What stands behind the name of a call, a jump or a return that is far.
@@ -108,18 +105,7 @@ fn put_db(buf: &mut [u8], at: usize, byte: u8) -> usize
 pub fn step_taken(answer: Answer) -> usize
     ensures { result ≡ step_taken answer }
 {
-    match answer {
-        Answer::Decoded {
-            instruction: _,
-            taken,
-            prefixes: _,
-        } => taken,
-        Answer::Refused {
-            refusal: _,
-            taken: _,
-            prefixes: _,
-        } => 1,
-    }
+    if answer.result.is_ok() { answer.taken } else { 1 }
 }
 
 // What stands behind the bytes: the instruction, or its first byte.
@@ -134,16 +120,15 @@ pub fn put_body(
     requires { (at + 63 ≤ length buf.old) × (step_taken answer < offsets) }
     ensures { Put 63 buf.old at (body_text reading start byte answer) buf.new result }
 {
-    match answer {
-        Answer::Decoded {
+    match answer.result {
+        Ok(instruction) => put_instruction(
+            buf,
+            at,
+            start,
+            answer.taken as u16,
             instruction,
-            taken,
-            prefixes: _,
-        } => put_instruction(buf, at, start, taken as u16, instruction, reading),
-        Answer::Refused {
-            refusal: _,
-            taken: _,
-            prefixes: _,
-        } => put_db(buf, at, byte),
+            reading,
+        ),
+        Err(_) => put_db(buf, at, byte),
     }
 }

@@ -22,5 +22,5 @@ named r s =
 pub returns : goal.returns
 returns c =
     let a = c.args.register in
-    let n : 8 * c.into_encoding.result + c.into_encoding-2.result ≡ 8 * size_code a.1 + register_code a.0 = omega arith in
+    let n : 8 * c.from.result + c.from-2.result ≡ 8 * size_code a.1 + register_code a.0 = omega (arith, c.from.ensures, c.from-2.ensures) in
     gives (omega arith) (c.register_name-name.ensures ∙ ap register_name_at n ∙ named a.0 a.1) c.put_bytes.ensures

@@ -5,5 +5,5 @@ use Rattle.mrc_line.specs.Line.{kept_text}
 use Rattle.mrc_line.proofs.Put.{then, gives}
 use Rattle.mrc_line.proofs.step.put_kept.Goals as goal
 
-pub returns-in-Some : goal.returns-in-Some
-returns-in-Some c = gives (omega arith) (sym (ap kept_text c.in-Some.is)) (then c.put_segment-c.ensures c.put_bytes.ensures)
+pub returns : goal.returns
+returns c = gives (omega arith) (sym (ap kept_text c.in-Some.is)) (then c.put_segment-c.ensures c.put_bytes.ensures)
