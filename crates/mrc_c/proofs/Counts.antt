@@ -17,7 +17,7 @@ use Rattle.mrc_instruction.specs.Errors.{number_of}
 use Rattle.mrc_instruction.specs.Operand.{addressing_of}
 use Rattle.mrc_instruction.specs.Reader.{Outcome, got, stopped, taken_by, read_from, read_at, done, a_byte, a_word, ◌>>=◌}
 use Rattle.mrc_instruction.specs.Mrrm.{ModRM, a_register_or_memory, modrm, a_modrm}
-use Rattle.mrc_instruction.specs.Read.{mrrm_read, mrrm_values}
+use Rattle.mrc_instruction.specs.Read.{mrrm_read, read_values}
 use Rattle.mrc_instruction.proofs.Sequence.{taken_more}
 use Rattle.mrc_rules.specs.declared.Answer.{Answer}
 use Rattle.mrc_rules.specs.Answer.{number, taken, prefixes}
@@ -91,13 +91,13 @@ modrm_few [] = omega arith
 modrm_few (b ∷ l) =
     omega (arith, taken_more (read_from (a_register_or_memory (b / 64) (b % 8) >>= λ x. done (modrm b x)) l), displacement_few (b / 64) (b % 8) b l)
 
-taken_of_lem : (o : Outcome ModRM) → (mrrm_values (mrrm_read o)).taken ≡ taken_by o
+taken_of_lem : (o : Outcome ModRM) → (read_values (mrrm_read o)).taken ≡ taken_by o
 taken_of_lem (got m n) = refl
 taken_of_lem (stopped e n) = refl
 
-pub modrm_small : (s : List ℕ) (at : ℕ) → (mrrm_values (mrrm_read (read_at a_modrm s at))).taken < words
+pub modrm_small : (s : List ℕ) (at : ℕ) → (read_values (mrrm_read (read_at a_modrm s at))).taken < words
 modrm_small s at = go (leb at (length s))
   where
-    go : (t : Bool) → (mrrm_values (mrrm_read (cond t (read_from a_modrm (drop at s)) (stopped Refusal.OutsideInput 0)))).taken < words
+    go : (t : Bool) → (read_values (mrrm_read (cond t (read_from a_modrm (drop at s)) (stopped Refusal.OutsideInput 0)))).taken < words
     go true = omega (arith, taken_of_lem (read_from a_modrm (drop at s)), modrm_few (drop at s))
     go false = omega arith

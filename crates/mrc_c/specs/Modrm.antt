@@ -1,7 +1,8 @@
 -- Rule 15.5: the record of a ModRM as C and Rust get it: its fields, and the two machine words that they are packed in.
-use Rattle.std.specs.Prelude.{ℕ, ◌+◌, ◌<◌, ◌≡◌, List, [], ◌∷◌, get_or}
+use Rattle.std.specs.Prelude.{ℕ, ◌+◌, ◌<◌, ◌≡◌, List, [], ◌∷◌, get_or, Ok, Err}
 use Rattle.mrc_instruction.specs.declared.mrrm.RegisterOrMemory.{RegisterOrMemory}
-use Rattle.mrc_instruction.specs.declared.mrrm.MrrmRead.{MrrmRead}
+use Rattle.mrc_instruction.specs.declared.mrrm.WrittenModRM.{WrittenModRM}
+use Rattle.mrc_instruction.specs.Read.{Read}
 use Rattle.mrc_instruction.specs.Widths.{words}
 use Rattle.mrc_instruction.specs.Errors.{number_of, byte_of}
 use Rattle.mrc_instruction.specs.Register.{register_code}
@@ -64,6 +65,7 @@ named_fields (RegisterOrMemory.DisplacementByte m d) = fields_of 3 0 (addressing
 named_fields (RegisterOrMemory.DisplacementWord m d) = fields_of 4 0 (addressing_code m) 0 (unsigned_word d) 0
 named_fields (RegisterOrMemory.Register r) = fields_of 5 (register_code r) 0 0 0 0
 
-abbrev pub modrm_of : MrrmRead → Modrm
-modrm_of (MrrmRead.Got m b w n) = record { head = modrm_by 0 b n (register_code m.register) w; operand = named_fields m.register_or_memory }
-modrm_of (MrrmRead.Refused e n) = record { head = modrm_by (number_of e) (byte_of e) n 0 0; operand = no_operand }
+abbrev pub modrm_of : Read WrittenModRM → Modrm
+modrm_of (Ok t) =
+    let m = t.value in record { head = modrm_by 0 m.byte t.taken (register_code m.mrrm.register) m.written; operand = named_fields m.mrrm.register_or_memory }
+modrm_of (Err e) = record { head = modrm_by (number_of e.refusal) (byte_of e.refusal) e.taken 0 0; operand = no_operand }

@@ -1,6 +1,8 @@
 -- Rule 15.1: the record of an answer as C and Rust get it: its fields, and the five machine words that they are packed in. The third operand has its
 -- place, and is 0.
-use Rattle.std.specs.Prelude.{ℕ, ◌+◌, ◌<◌, ◌≡◌, List, [], ◌∷◌, get_or, Option, Some, None}
+use Rattle.std.specs.Prelude.{ℕ, ◌+◌, ◌<◌, ◌≡◌, List, [], ◌∷◌, get_or, Option, Some, None, Result, Ok, Err}
+use Rattle.mrc_instruction.specs.declared.instruction.Instruction.{Instruction}
+use Rattle.mrc_instruction.specs.declared.errors.Refusal.{Refusal}
 use Rattle.mrc_instruction.specs.declared.instruction.Repeat.{Repeat}
 use Rattle.mrc_instruction.specs.declared.instruction.Reach.{Reach}
 use Rattle.mrc_instruction.specs.declared.register.Segment.{Segment}
@@ -148,13 +150,15 @@ source_of (OperandSet.Destination d) = no_operand
 source_of (OperandSet.DestinationAndSource d s) = operand_fields s
 
 -- of a refusal all but the head is 0
-abbrev pub record_of : Answer → Record
-record_of (Answer.Decoded i n p) = record {
-  head = head_of (Answer.Decoded i n p);
+abbrev pub record_with : Head → Result Instruction Refusal → Record
+record_with head (Ok i) = record {
+  head = head;
   body = body_by (operation_number i.operation) (repeat_code i.repeat) (reach_code i.reach) (kept_code i.kept) i.written (count_of i.operands);
   destination = destination_of i.operands;
   source = source_of i.operands;
   third = no_operand;
 }
-record_of (Answer.Refused e n p) =
-    record { head = head_of (Answer.Refused e n p); body = body_by 0 0 0 0 0 0; destination = no_operand; source = no_operand; third = no_operand }
+record_with head (Err e) = record { head = head; body = body_by 0 0 0 0 0 0; destination = no_operand; source = no_operand; third = no_operand }
+
+abbrev pub record_of : Answer → Record
+record_of a = record_with (head_of a) a.result

@@ -1,11 +1,11 @@
 -- Rule 15.9: the size of an operand by the kind and the size of its fields: 0 Byte, 1 Word, 2 no size.
-use Rattle.std.specs.Prelude.{ℕ, cond, List, [], ◌∷◌, ltb, get_or}
-use Rattle.mrc_instruction.specs.declared.operand.Sized.{Sized}
+use Rattle.std.specs.Prelude.{ℕ, cond, List, [], ◌∷◌, ltb, get_or, Option, Some, None}
+use Rattle.mrc_instruction.specs.declared.operand.OperandSize.{OperandSize}
 use Rattle.mrc_instruction.specs.Operand.{size_code}
 
-abbrev pub sized_code : Sized → ℕ
-sized_code (Sized.Size size) = size_code size
-sized_code Sized.NoSize = 2
+abbrev pub sized_code : Option OperandSize → ℕ
+sized_code (Some size) = size_code size
+sized_code None = 2
 
 -- the size that memory and registers have of their own; a number that is none is no size
 abbrev pub own_size : ℕ → ℕ

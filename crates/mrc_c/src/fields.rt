@@ -1,5 +1,5 @@
 // The field readers for C and Rust: the code, or 65,536 times the refusal's number and its byte.
-ghost use Rattle.std.specs.Prelude.{◌≡◌};
+ghost use Rattle.std.specs.Prelude.{◌≡◌, MatchResult};
 ghost use Rattle.mrc_instruction.specs.Values.{refused_with};
 ghost use Rattle.mrc_instruction.specs.Register.{register_field, segment_field};
 ghost use Rattle.mrc_instruction.specs.Operand.{addressing_field};
@@ -16,29 +16,30 @@ fn refusal_code(refusal: Refusal) -> u32
     (WORDS as u32) * u32::from(refusal.number()) + u32::from(refusal.byte())
 }
 
+// The code of what a field names, or that of the refusal.
+fn field_code<T: Into<u8>>(named: Result<T, Refusal>) -> u32
+    ensures { MatchResult named (λ t. T.converts t result) (λ e. result ≡ refusal_code (refused_with e 0 0)) }
+{
+    match named {
+        Ok(named) => u32::from(named.into()),
+        Err(refusal) => refusal_code(refusal),
+    }
+}
+
 pub fn mrc_register(field: u8) -> u32
     ensures { result ≡ register_number (register_field field) }
 {
-    match RegisterEncoding::try_from(field) {
-        Ok(register) => u8::from(register) as u32,
-        Err(refusal) => refusal_code(refusal),
-    }
+    field_code(RegisterEncoding::try_from(field))
 }
 
 pub fn mrc_segment(field: u8) -> u32
     ensures { result ≡ segment_number (segment_field field) }
 {
-    match Segment::try_from(field) {
-        Ok(segment) => u8::from(segment) as u32,
-        Err(refusal) => refusal_code(refusal),
-    }
+    field_code(Segment::try_from(field))
 }
 
 pub fn mrc_addressing(field: u8) -> u32
     ensures { result ≡ addressing_number (addressing_field field) }
 {
-    match AddressingMode::try_from(field) {
-        Ok(mode) => u8::from(mode) as u32,
-        Err(refusal) => refusal_code(refusal),
-    }
+    field_code(AddressingMode::try_from(field))
 }
