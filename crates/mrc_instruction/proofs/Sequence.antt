@@ -58,17 +58,9 @@ module _ {A B : Type 0} where
     then_at {a = a} {n = n} e h =
         ap (after n) (h ∙ ap (read_from (f a)) (sym (drop-drop n at s))) ∙ ap (through (λ a n. read_from (f a) (drop n (drop at s)))) e ∙ sym (then m f (drop at s))
 
-    -- the same where f a is known to be another reader
-    pub then_as : {a : A} {n : ℕ} {o : Outcome B} {r : Reader B} → got a n ≡ read_from m (drop at s) → f a ≡ r → o ≡ read_from r (drop (at + n) s)
-        → after n o ≡ read_from (m >>= f) (drop at s)
-    then_as {n = n} e g h = then_at e (h ∙ ap (λ r. read_from r (drop (at + n) s)) (sym g))
-
-    -- m got an a, and f a reads nothing more: it is done, or refuses
+    -- m got an a, and f a reads nothing more: it is done
     pub done_at : {a : A} {n : ℕ} {b : B} → got a n ≡ read_from m (drop at s) → f a ≡ done b → got b n ≡ read_from (m >>= f) (drop at s)
     done_at {n = n} {b = b} e h = ap (got b) (sym (add-zero n)) ∙ then_at e (ap (λ r. read_from r (drop (at + n) s)) (sym h))
-
-    pub refuse_at : {a : A} {n : ℕ} {x : Refusal} → got a n ≡ read_from m (drop at s) → f a ≡ refuse x → stopped x n ≡ read_from (m >>= f) (drop at s)
-    refuse_at {n = n} {x = x} e h = ap (stopped x) (sym (add-zero n)) ∙ then_at e (ap (λ r. read_from r (drop (at + n) s)) (sym h))
 
     -- m stopped
     pub stop_at : {x : Refusal} {n : ℕ} → stopped x n ≡ read_from m (drop at s) → stopped x n ≡ read_from (m >>= f) (drop at s)

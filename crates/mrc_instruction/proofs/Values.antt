@@ -15,11 +15,11 @@ use Rattle.mrc_instruction.specs.declared.errors.Refusal.{Refusal}
 use Rattle.mrc_instruction.specs.declared.reading.Reading.{Reading}
 use Rattle.mrc_instruction.specs.declared.operand.OperandSize.{OperandSize}
 use Rattle.mrc_instruction.specs.declared.mrrm.WrittenModRM.{WrittenModRM}
-use Rattle.mrc_instruction.specs.Reader.{Reader, Outcome, got, stopped, taken_by, mapped, after, read_from, read_at}
+use Rattle.mrc_instruction.specs.Reader.{Reader, Outcome, got, stopped, taken_by, mapped, read_from, read_at}
 use Rattle.mrc_instruction.specs.Values.{Values, carrying, refused_with, outcome_values, OfReader}
 use Rattle.mrc_instruction.specs.Field.{field_read, field_values, FieldNamed}
 use Rattle.mrc_instruction.specs.Mrrm.{ModRM, a_modrm}
-use Rattle.mrc_instruction.specs.Read.{Read, told, read_values, with_written, mrrm_read, MrrmAt, named_by, operand_read, operand_values}
+use Rattle.mrc_instruction.specs.Read.{Read, told, read_values, with_written, mrrm_read, MrrmAt, operand_read, operand_values}
 use Rattle.mrc_instruction.proofs.Sequence.{taken_le}
 use Rattle.mrc_instruction.proofs.Ends.{Takes, Ended, ends, takes_modrm}
 

@@ -1,9 +1,9 @@
 -- The byte, and then what mod and rm call for, behind it.
 -- Assumes nothing.
-use Rattle.std.proofs.Common.{refl, ap, ◌∙◌, ◌/◌, ◌%◌, arith}
-use Rattle.mrc_instruction.specs.Reader.{mapped, a_byte}
+use Rattle.std.proofs.Common.{ap, ◌∙◌, ◌/◌, ◌%◌, arith}
+use Rattle.mrc_instruction.specs.Reader.{a_byte}
 use Rattle.mrc_instruction.specs.Mrrm.{a_register_or_memory, modrm}
-use Rattle.mrc_instruction.specs.Read.{told, with_written, mrrm_read}
+use Rattle.mrc_instruction.specs.Read.{mrrm_read}
 use Rattle.mrc_instruction.proofs.Sequence.{took, stop_at}
 use Rattle.mrc_instruction.proofs.Outcomes.{read_is, one_and_another, passed}
 use Rattle.mrc_instruction.proofs.mrrm.ModRegRM.try_from_bytes.Goals as goal

@@ -1,6 +1,6 @@
 -- By mod: one reader or none, and then it is done.
 -- Assumes nothing.
-use Rattle.std.proofs.Common.{refl, ap, ◌∙◌, ◌%◌, arith}
+use Rattle.std.proofs.Common.{ap, ◌∙◌, ◌%◌}
 use mir.ValLaws.{to_z-of_z}
 use mir.Syntax.{w8, w16}
 use Rattle.mrc_instruction.specs.declared.mrrm.RegisterOrMemory.{RegisterOrMemory}
