@@ -165,7 +165,7 @@ pub fn decode_instruction(s: &[u8], at: usize, budget: u8, reading: Reading) -> 
     }
     let byte = s[at];
     let next = at + 1;
-    let read = match form_of(byte, reading) {
+    match form_of(byte, reading) {
         Form::Override | Form::Repeat => {
             if budget == 0 {
                 return too_many(byte);
@@ -173,25 +173,26 @@ pub fn decode_instruction(s: &[u8], at: usize, budget: u8, reading: Reading) -> 
             let inner = decode_instruction(s, next, budget - 1, reading);
             return behind_prefix(byte, inner, reading);
         }
-        Form::Invalid => invalid(byte, next),
-        Form::OnRegister(operation) => on_register(operation, byte, next),
-        Form::OnImmediate(operation, size, reach) => {
-            reaching(reach, on_immediate(operation, size, s, next))
-        }
-        Form::OnDisplacement(operation, size, reach) => {
-            reaching(reach, on_displacement(operation, size, s, next))
-        }
-        Form::Far(operation) => reaching(Reach::Far, far(operation, s, next)),
-        Form::Escape => escape(s, next),
-        Form::InPort => in_port(byte, s, next),
-        Form::OutPort => out_port(byte, s, next),
-        Form::RegisterAndImmediate => register_and_immediate(byte, s, next),
-        Form::AccumulatorAndDirect => accumulator_and_direct(byte, s, next),
+        Form::Invalid => answered(at, invalid(byte, next)),
+        Form::OnRegister(operation) => answered(at, on_register(operation, byte, next)),
+        Form::OnImmediate(operation, size, reach) => answered(
+            at,
+            reaching(reach, on_immediate(operation, size, s, next)),
+        ),
+        Form::OnDisplacement(operation, size, reach) => answered(
+            at,
+            reaching(reach, on_displacement(operation, size, s, next)),
+        ),
+        Form::Far(operation) => answered(at, reaching(Reach::Far, far(operation, s, next))),
+        Form::Escape => answered(at, escape(s, next)),
+        Form::InPort => answered(at, in_port(byte, s, next)),
+        Form::OutPort => answered(at, out_port(byte, s, next)),
+        Form::RegisterAndImmediate => answered(at, register_and_immediate(byte, s, next)),
+        Form::AccumulatorAndDirect => answered(at, accumulator_and_direct(byte, s, next)),
         Form::ImmediateToAccumulator(operation) => {
-            immediate_to_accumulator(operation, byte, s, next)
+            answered(at, immediate_to_accumulator(operation, byte, s, next))
         }
-        Form::OpcodeAlone(form) => opcode_alone(form, byte, next),
-        Form::WithModRM(form, size) => with_modrm(form, size, s, next, reading),
-    };
-    answered(at, read)
+        Form::OpcodeAlone(form) => answered(at, opcode_alone(form, byte, next)),
+        Form::WithModRM(form, size) => answered(at, with_modrm(form, size, s, next, reading)),
+    }
 }

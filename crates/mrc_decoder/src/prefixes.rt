@@ -128,7 +128,8 @@ fn with_repeat(prefix: u8, inner: Answer) -> Answer
     }
 }
 
-// The inner answer behind a prefix of either kind.
+// The inner answer behind a prefix of either kind. It stays a call: what it keeps of the inner answer costs a step that has no prefix nothing.
+#[inline(never)]
 pub fn behind_prefix(prefix: u8, inner: Answer, reading: Reading) -> Answer
     requires { Small inner }
     ensures { result ≡ behind_prefix reading prefix inner }

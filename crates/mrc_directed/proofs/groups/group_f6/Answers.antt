@@ -11,12 +11,12 @@ pub returns-in_err-immediate-in-0 : goal.returns-in_err-immediate-in-0
 returns-in_err-immediate-in-0 c =
     passed c.from_residual.result c.from_residual.ensures.1
     ∙ rw (← c.reg_field.ensures, group_f6_test _ c.args.destination.operand c.args.size c.in-0.is)
-    (form_stop (an_immediate c.args.size) _ c.args.s.now c.args.at (omega arith) (omega arith) c.read_immediate.ensures c.in_err-immediate-in-0.ensures)
+    (form_stop (an_immediate c.args.size) c.args.s.now c.args.at (omega arith) (omega arith) c.read_immediate.ensures _ c.in_err-immediate-in-0.ensures)
 
 pub returns-in_ok-immediate-in-0 : goal.returns-in_ok-immediate-in-0
 returns-in_ok-immediate-in-0 c =
     rw (c.decoded.ensures, ← c.reg_field.ensures, group_f6_test _ c.args.destination.operand c.args.size c.in-0.is)
-    (form_one _ (an_immediate c.args.size) c.args.s.now c.args.at (omega arith) (omega arith) c.read_immediate.ensures c.in_ok-immediate-in-0.ensures)
+    (form_one (an_immediate c.args.size) c.args.s.now c.args.at (omega arith) (omega arith) c.read_immediate.ensures _ c.in_ok-immediate-in-0.ensures)
 
 pub returns-in_default : goal.returns-in_default
 returns-in_default c =

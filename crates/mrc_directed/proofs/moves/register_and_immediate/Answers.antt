@@ -9,9 +9,9 @@ use Rattle.mrc_directed.proofs.moves.register_and_immediate.Goals as goal
 pub returns-in_err-immediate : goal.returns-in_err-immediate
 returns-in_err-immediate c =
     passed c.from_residual.result c.from_residual.ensures.1
-    ∙ rw (← c.from_low_bit-size.ensures) (form_stop (an_immediate c.from_low_bit-size.result) _ c.args.s.now c.args.at (omega arith) (omega arith) c.read_immediate.ensures c.in_err-immediate.ensures)
+    ∙ rw (← c.from_low_bit-size.ensures) (form_stop (an_immediate c.from_low_bit-size.result) c.args.s.now c.args.at (omega arith) (omega arith) c.read_immediate.ensures _ c.in_err-immediate.ensures)
 
 pub returns : goal.returns
 returns c =
     rw (c.decoded.ensures, c.from_low_bits-register.ensures, ← c.from_low_bit-size.ensures)
-    (form_one _ (an_immediate c.from_low_bit-size.result) c.args.s.now c.args.at (omega arith) (omega arith) c.read_immediate.ensures c.in_ok-immediate.ensures)
+    (form_one (an_immediate c.from_low_bit-size.result) c.args.s.now c.args.at (omega arith) (omega arith) c.read_immediate.ensures _ c.in_ok-immediate.ensures)

@@ -10,9 +10,9 @@ use Rattle.mrc_directed.proofs.ports.in_port.Goals as goal
 pub returns-in_err-immediate : goal.returns-in_err-immediate
 returns-in_err-immediate c =
     passed c.from_residual.result c.from_residual.ensures.1
-    ∙ form_stop (an_immediate OperandSize.Byte) _ c.args.s.now c.args.at (omega arith) (omega arith) c.read_immediate.ensures c.in_err-immediate.ensures
+    ∙ form_stop (an_immediate OperandSize.Byte) c.args.s.now c.args.at (omega arith) (omega arith) c.read_immediate.ensures _ c.in_err-immediate.ensures
 
 pub returns : goal.returns
 returns c =
     rw (c.decoded.ensures, ← c.from_low_bit-size.ensures)
-    (form_one _ (an_immediate OperandSize.Byte) c.args.s.now c.args.at (omega arith) (omega arith) c.read_immediate.ensures c.in_ok-immediate.ensures)
+    (form_one (an_immediate OperandSize.Byte) c.args.s.now c.args.at (omega arith) (omega arith) c.read_immediate.ensures _ c.in_ok-immediate.ensures)

@@ -10,9 +10,9 @@ use Rattle.mrc_directed.proofs.shifts.shift_by_immediate.Goals as goal
 pub returns-in_err-immediate : goal.returns-in_err-immediate
 returns-in_err-immediate c size =
     passed c.from_residual.result c.from_residual.ensures.1
-    ∙ form_stop (an_immediate OperandSize.Byte) _ c.args.s.now c.args.at (omega arith) (omega arith) c.read_immediate.ensures c.in_err-immediate.ensures
+    ∙ form_stop (an_immediate OperandSize.Byte) c.args.s.now c.args.at (omega arith) (omega arith) c.read_immediate.ensures _ c.in_err-immediate.ensures
 
 pub returns : goal.returns
 returns c size =
     rw (c.decoded.ensures, c.group2_operation-operation.ensures, c.reg_field.ensures)
-    (form_one _ (an_immediate OperandSize.Byte) c.args.s.now c.args.at (omega arith) (omega arith) c.read_immediate.ensures c.in_ok-immediate.ensures)
+    (form_one (an_immediate OperandSize.Byte) c.args.s.now c.args.at (omega arith) (omega arith) c.read_immediate.ensures _ c.in_ok-immediate.ensures)

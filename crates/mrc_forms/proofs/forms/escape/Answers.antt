@@ -11,8 +11,8 @@ use Rattle.mrc_forms.proofs.forms.escape.Goals as goal
 pub returns-in_err-byte : goal.returns-in_err-byte
 returns-in_err-byte c =
     passed c.from_residual.result c.from_residual.ensures.1
-    ∙ form_one (λ b. none ESC) a_byte c.args.s.now c.args.at (omega arith) (omega arith) c.read_u8.ensures c.in_err-byte.ensures
+    ∙ form_one a_byte c.args.s.now c.args.at (omega arith) (omega arith) c.read_u8.ensures (λ b. none ESC) c.in_err-byte.ensures
 
 pub returns : goal.returns
 returns c =
-    rw c.decoded.ensures (form_one (λ b. none ESC) a_byte c.args.s.now c.args.at (omega arith) (omega arith) c.read_u8.ensures c.in_ok-byte.ensures)
+    rw c.decoded.ensures (form_one a_byte c.args.s.now c.args.at (omega arith) (omega arith) c.read_u8.ensures (λ b. none ESC) c.in_ok-byte.ensures)

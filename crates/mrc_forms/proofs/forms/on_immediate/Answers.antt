@@ -10,8 +10,8 @@ use Rattle.mrc_forms.proofs.forms.on_immediate.Goals as goal
 pub returns-in_err-immediate : goal.returns-in_err-immediate
 returns-in_err-immediate c =
     passed c.from_residual.result c.from_residual.ensures.1
-    ∙ form_one (λ i. one c.args.operation (Operand.Immediate i)) (an_immediate c.args.size) c.args.s.now c.args.at (omega arith) (omega arith) c.read_immediate.ensures c.in_err-immediate.ensures
+    ∙ form_one (an_immediate c.args.size) c.args.s.now c.args.at (omega arith) (omega arith) c.read_immediate.ensures (λ i. one c.args.operation (Operand.Immediate i)) c.in_err-immediate.ensures
 
 pub returns : goal.returns
 returns c =
-    rw c.decoded.ensures (form_one (λ i. one c.args.operation (Operand.Immediate i)) (an_immediate c.args.size) c.args.s.now c.args.at (omega arith) (omega arith) c.read_immediate.ensures c.in_ok-immediate.ensures)
+    rw c.decoded.ensures (form_one (an_immediate c.args.size) c.args.s.now c.args.at (omega arith) (omega arith) c.read_immediate.ensures (λ i. one c.args.operation (Operand.Immediate i)) c.in_ok-immediate.ensures)
