@@ -171,28 +171,32 @@ pub fn decode_instruction(s: &[u8], at: usize, budget: u8, reading: Reading) -> 
                 return too_many(byte);
             }
             let inner = decode_instruction(s, next, budget - 1, reading);
-            return behind_prefix(byte, inner, reading);
+            let answer = behind_prefix(byte, inner, reading);
+            return answer;
         }
-        Form::Invalid => answered(at, invalid(byte, next)),
-        Form::OnRegister(operation) => answered(at, on_register(operation, byte, next)),
-        Form::OnImmediate(operation, size, reach) => answered(
+        Form::Invalid => return answered(at, invalid(byte, next)),
+        Form::OnRegister(operation) => return answered(at, on_register(operation, byte, next)),
+        Form::OnImmediate(operation, size, reach) => return answered(
             at,
             reaching(reach, on_immediate(operation, size, s, next)),
         ),
-        Form::OnDisplacement(operation, size, reach) => answered(
+        Form::OnDisplacement(operation, size, reach) => return answered(
             at,
             reaching(reach, on_displacement(operation, size, s, next)),
         ),
-        Form::Far(operation) => answered(at, reaching(Reach::Far, far(operation, s, next))),
-        Form::Escape => answered(at, escape(s, next)),
-        Form::InPort => answered(at, in_port(byte, s, next)),
-        Form::OutPort => answered(at, out_port(byte, s, next)),
-        Form::RegisterAndImmediate => answered(at, register_and_immediate(byte, s, next)),
-        Form::AccumulatorAndDirect => answered(at, accumulator_and_direct(byte, s, next)),
+        Form::Far(operation) => return answered(at, reaching(Reach::Far, far(operation, s, next))),
+        Form::Escape => return answered(at, escape(s, next)),
+        Form::InPort => return answered(at, in_port(byte, s, next)),
+        Form::OutPort => return answered(at, out_port(byte, s, next)),
+        Form::RegisterAndImmediate => return answered(at, register_and_immediate(byte, s, next)),
+        Form::AccumulatorAndDirect => return answered(at, accumulator_and_direct(byte, s, next)),
         Form::ImmediateToAccumulator(operation) => {
-            answered(at, immediate_to_accumulator(operation, byte, s, next))
+            return answered(at, immediate_to_accumulator(operation, byte, s, next));
         }
-        Form::OpcodeAlone(form) => answered(at, opcode_alone(form, byte, next)),
-        Form::WithModRM(form, size) => answered(at, with_modrm(form, size, s, next, reading)),
+        Form::OpcodeAlone(form) => return answered(at, opcode_alone(form, byte, next)),
+        Form::WithModRM(form, size) => return answered(
+            at,
+            with_modrm(form, size, s, next, reading),
+        ),
     }
 }
