@@ -1,19 +1,22 @@
 -- What a read does to the bytes that a reader has left and a buffer holds, where those are known.
 -- Assumes nothing.
-use Rattle.std.proofs.Common.{◌≡◌, ℕ, ◌+◌, ◌<◌, ◌≤◌, List, ◌++◌, length, take, ℤ, pos, negsuc, Bool, true, false, cond, Result, Ok, Err, Some, None, IfSome, MatchResult, refl, sym, ap, ◌∙◌, subst, arith, length-append}
+use Rattle.std.proofs.Common.{◌≡◌, ℕ, ◌+◌, ◌<◌, ◌≤◌, List, ◌++◌, length, take, Bool, true, false, cond, Result, Ok, Err, Some, None, IfSome, refl, sym, ap, ◌∙◌, subst, arith, length-append}
 use Rattle.std.proofs.lemmas.List.{take-append-le}
 use Rattle.std.proofs.Math.Seq.{take-append-add}
 use Rattle.std.proofs.KnownBytes.{Consumes-trans, Consumes-whole}
 use Rattle.std.specs.Io.{ReadsAtMost}
 use Rattle.std.specs.Io.KnownBytes.{Consumes, ReadConsumes, IsAtEnd}
+use Rattle.std.specs.declared.io.Error.{Error}
+use Rattle.std.specs.declared.ops.ControlFlow.{ControlFlow}
+use Rattle.std.specs.declared.ops.ControlFlow.TheVariants.{Continue, Break}
 use Rattle.std.specs.declared.option.Option.{Option}
 use borrow.Author.Tests.{ltb-true, eqb-true}
 use borrow.Rule.Slice.PartMut.{put_mid, post_of}
 use lib.Dec.{ltb, eqb}
 use lib.Seq.{length-take-le}
 use Rattle.mrc_line.specs.Target.{offsets}
-use Rattle.mrc_list.specs.declared.input.Input.{Input}
-use Rattle.mrc_list.specs.declared.input.Progress.{Progress}
+use Rattle.mrc_list.specs.declared.input.NotAnImage.{NotAnImage}
+use Rattle.mrc_list.specs.declared.input.NotAnImage.TheVariants.{TooLong}
 use Rattle.mrc_list.specs.Input.{after_read, Holds}
 
 -- a buffer that is read into from a position on holds what stood before that, and then what came
@@ -35,15 +38,15 @@ nothing None = tt
 nothing (Some x) = tt
 
 module _ (a b c : Option (List ℕ)) (image buf : List ℕ) (there w : ℕ) where
-  -- what a read's progress tells of the bytes
-  abbrev pub Told : Progress → Type 0
-  Told (Progress.More n) = Consumes a c (take n (put_mid there w image buf))
-  Told (Progress.Read input) = IfSome a (λ xs. Holds xs (put_mid there w image buf) input)
+  -- what the outcome of a read tells of the bytes
+  abbrev pub Told : ControlFlow (Result ℕ NotAnImage) ℕ → Type 0
+  Told (Continue n) = Consumes a c (take n (put_mid there w image buf))
+  Told (Break input) = IfSome a (λ xs. Holds xs (put_mid there w image buf) input)
 
   told_by :
       (n : ℕ) (s t : Bool) → (s ≡ true → offsets < there + n) → (t ≡ true → n ≡ 0) → there ≤ length image → n ≤ length buf →
       (n ≡ 0 → IsAtEnd c) → Consumes a c (take there image ++ take n buf) →
-      Told (cond s (Progress.Read Input.TooLong) (cond t (Progress.Read (Input.Image there)) (Progress.More (there + n))))
+      Told (cond s (Break (Err TooLong)) (cond t (Break (Ok there)) (Continue (there + n))))
   told_by n true t f g h m end p =
       longer a c (take there image ++ take n buf) offsets
       (omega (arith, f refl, length-append (take there image) (take n buf), length-take-le there image h, length-take-le n buf m)) p
@@ -55,16 +58,15 @@ module _ (a b c : Option (List ℕ)) (image buf : List ℕ) (there w : ℕ) wher
   told_by n false false f g h m end p = subst (Consumes a c) (sym (filled image buf there w n h m)) p
 
   told_after :
-      {E : Type 0} (r : Result ℕ E) (z : ℤ) → MatchResult r (λ n. z ≡ pos n) (λ e. z ≡ negsuc 0) → ReadsAtMost r buf → ReadConsumes b c r buf →
-      there ≤ length image → 0 < length buf → Consumes a b (take there image) → Told (after_read there z)
-  told_after (Ok n) z e m q h l p =
-      subst (λ (x : ℤ). Told (after_read there x)) (sym e)
-      (told_by n (ltb offsets (there + n)) (eqb n 0) (λ d. ltb-true offsets (there + n) d) (λ d. eqb-true n 0 d) h (omega (arith, m))
-      (λ d. q.1 d l) (Consumes-trans a b c (take there image) (take n buf) p q.0))
-  told_after (Err x) z e m q h l p = subst (λ (x : ℤ). Told (after_read there x)) (sym e) (nothing a)
+      (r : Result ℕ Error) → ReadsAtMost r buf → ReadConsumes b c r buf → there ≤ length image → 0 < length buf →
+      Consumes a b (take there image) → Told (after_read there r)
+  told_after (Ok n) m q h l p =
+      told_by n (ltb offsets (there + n)) (eqb n 0) (λ d. ltb-true offsets (there + n) d) (λ d. eqb-true n 0 d) h (omega (arith, m))
+      (λ d. q.1 d l) (Consumes-trans a b c (take there image) (take n buf) p q.0)
+  told_after (Err x) m q h l p = nothing a
 
-  -- a read into what is left of a buffer, where the bytes before that are what the reads before it gave: its answer, and the progress that it came to
+  -- a read into what is left of a buffer, where the bytes before that are what the reads before it gave, and what its answer comes to
   pub told :
-      {E : Type 0} (r : Result ℕ E) (z : ℤ) (p : Progress) → MatchResult r (λ n. z ≡ pos n) (λ e. z ≡ negsuc 0) → p ≡ after_read there z → ReadsAtMost r buf →
-      ReadConsumes b c r buf → there ≤ length image → 0 < length buf → Consumes a b (take there image) → Told p
-  told r z p e is m q h l before = subst Told (sym is) (told_after r z e m q h l before)
+      (r : Result ℕ Error) (f : ControlFlow (Result ℕ NotAnImage) ℕ) → f ≡ after_read there r → ReadsAtMost r buf → ReadConsumes b c r buf →
+      there ≤ length image → 0 < length buf → Consumes a b (take there image) → Told f
+  told r f e m q h l p = subst Told (sym e) (told_after r m q h l p)
