@@ -5,13 +5,14 @@
 pub mod input;
 pub mod listing;
 
-ghost use Rattle.std.specs.Prelude.{◌≤◌, ◌<◌, length, IfSome, OnOk};
+ghost use Rattle.std.specs.Prelude.{◌≡◌, ◌≤◌, ◌<◌, length, IfSome, IfOk, IfErr, OnOk, MatchResult};
 ghost use Rattle.mrc_line.specs.Target.{offsets};
-ghost use Rattle.mrc_list.specs.Input.{Fits, Holds};
+ghost use Rattle.mrc_list.specs.declared.input.NotAnImage.TheVariants.{TooLong};
+ghost use Rattle.mrc_list.specs.declared.NotListed.{NotListed};
 ghost use Rattle.mrc_instruction.specs.declared.reading.Reading.TheVariants.{One};
 ghost use Rattle.mrc_line.specs.Page.{lines_of, text_of};
 ghost use Rattle.mrc_list.specs.Listing.{text_for, too_long_text};
-ghost use Rattle.std.specs.Io.KnownBytes.{Appends};
+ghost use Rattle.std.specs.Io.KnownBytes.{Appends, Keeps};
 
 use crate::input::{NotAnImage, START, after_read, wanted};
 use crate::listing::{next_page, too_long};
@@ -30,18 +31,22 @@ const PAGE_ROOM: usize = 8192;
 // What a program ends with that writes to a pipe whose reader went away.
 const BROKEN_PIPE: u8 = 141;
 
-// Reads the input to its end, or until a byte too many is there, and answers how many bytes the image has.
-fn read_input<R: Read>(from: &mut R, image: &mut [u8]) -> Result<usize, NotAnImage>
-    requires { offsets < length image.old }
-    ensures fits { Fits result }
-    ensures bytes { IfSome (R.remaining from.old) (λ xs. Holds xs image.new result) }
+// Reads the input to its end, or until a byte too many is there, and answers the image. The loop is written out, since the library's `read_to_end` reads
+// into memory of the heap, and its `read_exact` does not say how many bytes came.
+fn read_input<'a, R: Read>(from: &mut R, room: &'a mut [u8]) -> Result<&'a [u8], NotAnImage>
+    requires { offsets < length room.old }
+    ensures fits { IfOk result (λ image. length image.now ≤ offsets) }
+    ensures bytes { IfSome (R.remaining from.old) (λ xs. MatchResult result (λ image. image.now ≡ xs) (λ e. e ≡ TooLong → offsets < length xs)) }
 {
     let mut there = START;
     loop {
         let end = there + wanted(there);
-        match after_read(there, from.read(&mut image[there..end])) {
+        match after_read(there, from.read(&mut room[there..end])) {
             ControlFlow::Continue(filled) => there = filled,
-            ControlFlow::Break(input) => return input,
+            ControlFlow::Break(input) => {
+                let n = input?;
+                return Ok(&room[..n]);
+            }
         }
     }
 }
@@ -78,11 +83,12 @@ pub enum NotListed {
 
 // Lists the image that the input is. For an input that is too long it says only that.
 pub fn list_input<R: Read, W: Write>(from: &mut R, to: &mut W) -> Result<(), NotListed>
-    ensures { OnOk result (IfSome (R.remaining from.old) (λ xs. Appends (W.contents to.old) (W.contents to.new) (text_for xs))) }
+    ensures listed { OnOk result (IfSome (R.remaining from.old) (λ xs. Appends (W.contents to.old) (W.contents to.new) (text_for xs))) }
+    ensures unread { IfErr result (λ e. e ≡ NotListed.Read → Keeps (W.contents to.old) (W.contents to.new)) }
 {
-    let mut image = [0u8; IMAGE_ROOM];
-    match read_input(from, &mut image) {
-        Ok(n) => write_listing(to, &image[..n]).map_err(NotListed::Write),
+    let mut room = [0u8; IMAGE_ROOM];
+    match read_input(from, &mut room) {
+        Ok(image) => write_listing(to, image).map_err(NotListed::Write),
         Err(NotAnImage::TooLong) => write_too_long(to).map_err(NotListed::Write),
         Err(NotAnImage::Failed) => Err(NotListed::Read),
     }

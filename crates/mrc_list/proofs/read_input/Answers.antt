@@ -9,5 +9,5 @@ loop-filled-preserved g c =
     let R = g.R.Read.remaining in
     record {
       within = search rules;
-      bytes = told (R c.args.from.now) (R l.from) (R c.read.new.self) l.image c.read.new.buf l.there (l.there + c.wanted.result - l.there) c.read.result (Continue c.in-Continue.filled) c.in-Continue.ensures c.read.ensures.bound c.read.ensures.bytes (omega arith) (omega arith) l.invariant.bytes;
+      bytes = told (R c.args.from.now) (R l.from) (R c.read.new.self) l.room c.read.new.buf l.there (l.there + c.wanted.result - l.there) c.read.result (Continue c.in-Continue.filled) c.in-Continue.ensures c.read.ensures.bound c.read.ensures.bytes (omega arith) (omega arith) l.invariant.bytes;
     }
