@@ -1,5 +1,5 @@
 -- Rule 14.1: what the reads of an input come to: an image, where it has at most 65,536 bytes, however many reads they come in.
-use Rattle.std.specs.Prelude.{◌≡◌, cond, ℕ, ◌+◌, ◌-◌, ◌<◌, ◌≤◌, ltb, eqb, List, length, take, Result, Ok, Err, IfOk}
+use Rattle.std.specs.Prelude.{◌≡◌, cond, ℕ, ◌+◌, ◌-◌, ◌≤◌, ltb, eqb, Result, Ok, Err}
 use Rattle.std.specs.declared.io.Error.{Error}
 use Rattle.std.specs.declared.ops.ControlFlow.{ControlFlow}
 use Rattle.std.specs.declared.ops.ControlFlow.TheVariants.{Continue, Break}
@@ -21,10 +21,6 @@ wanted_of there = offsets + 1 - there
 abbrev pub input_of : ℕ → Result ℕ NotAnImage
 input_of n = cond (ltb offsets n) (Err TooLong) (Ok n)
 
--- Internal: an image has a byte for each offset at most
-abbrev pub Fits : Result ℕ NotAnImage → Type 0
-Fits r = IfOk r (λ n. n ≤ offsets)
-
 -- rule 14.1: of an input of n bytes k come where so many are there: no more than were asked for, and none only where all are there
 pub record Comes (n there k : ℕ) : Type 0 where
   pub within : there + k ≤ n
@@ -35,10 +31,3 @@ pub record Comes (n there k : ℕ) : Type 0 where
 pub data Reads (n : ℕ) : ℕ → Result ℕ NotAnImage → Type 0 where
   last : {there k : ℕ} {r : Result ℕ NotAnImage} → Comes n there k → after_read there (Ok k) ≡ Break r → Reads n there r
   more : {there k filled : ℕ} {r : Result ℕ NotAnImage} → Comes n there k → after_read there (Ok k) ≡ Continue filled → Reads n filled r → Reads n there r
-
--- what a buffer holds of an input of these bytes, by what it was read as: an image has all of them, from the start of the buffer on; one that is too
--- long has more of them than there are offsets; where a read failed, nothing is said
-abbrev pub Holds : List ℕ → List ℕ → Result ℕ NotAnImage → Type 0
-Holds xs image (Ok n) = take n image ≡ xs
-Holds xs image (Err TooLong) = offsets < length xs
-Holds xs image (Err Failed) = Unit {0}

@@ -24,12 +24,17 @@ pub fn wanted(there: usize) -> usize
 }
 
 // What a read's answer comes to where so many bytes are there: so many now, and more may come; or an image of so many bytes, or none.
-pub fn after_read(there: usize, got: io::Result<usize>) -> ControlFlow<Result<usize, NotAnImage>, usize>
+pub fn after_read(
+    there: usize,
+    got: io::Result<usize>,
+) -> ControlFlow<Result<usize, NotAnImage>, usize>
     ensures { result ≡ after_read there got }
 {
     match got {
         Err(_) => ControlFlow::Break(Err(NotAnImage::Failed)),
-        Ok(more) if OFFSETS < there.saturating_add(more) => ControlFlow::Break(Err(NotAnImage::TooLong)),
+        Ok(more) if OFFSETS < there.saturating_add(more) => ControlFlow::Break(Err(
+            NotAnImage::TooLong,
+        )),
         Ok(0) => ControlFlow::Break(Ok(there)),
         Ok(more) => ControlFlow::Continue(there + more),
     }
