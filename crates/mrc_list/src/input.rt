@@ -4,7 +4,7 @@ ghost use Rattle.mrc_list.specs.Input.{wanted_of, after_read};
 
 use mrc_line::line::OFFSETS;
 use std::io;
-use std::ops::ControlFlow;
+use std::ops::ControlFlow::{self, Break, Continue};
 
 // Where an image begins: its first byte goes there, and its first line starts there.
 pub const START: usize = 0;
@@ -31,11 +31,9 @@ pub fn after_read(
     ensures { result ≡ after_read there got }
 {
     match got {
-        Err(_) => ControlFlow::Break(Err(NotAnImage::Failed)),
-        Ok(more) if OFFSETS < there.saturating_add(more) => ControlFlow::Break(Err(
-            NotAnImage::TooLong,
-        )),
-        Ok(0) => ControlFlow::Break(Ok(there)),
-        Ok(more) => ControlFlow::Continue(there + more),
+        Err(_) => Break(Err(NotAnImage::Failed)),
+        Ok(more) if OFFSETS < there.saturating_add(more) => Break(Err(NotAnImage::TooLong)),
+        Ok(0) => Break(Ok(there)),
+        Ok(more) => Continue(there + more),
     }
 }

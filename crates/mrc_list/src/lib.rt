@@ -18,7 +18,7 @@ use crate::input::{NotAnImage, START, after_read, wanted};
 use crate::listing::{next_page, too_long};
 use mrc_line::line::OFFSETS;
 use std::io::{self, ErrorKind, Read, Write};
-use std::ops::ControlFlow;
+use std::ops::ControlFlow::{Break, Continue};
 use std::process::ExitCode;
 use thiserror::Error;
 
@@ -31,8 +31,8 @@ const PAGE_ROOM: usize = 8192;
 // What a program ends with that writes to a pipe whose reader went away.
 const BROKEN_PIPE: u8 = 141;
 
-// Reads the input to its end, or until a byte too many is there, and answers the image. The loop is written out, since the library's `read_to_end` reads
-// into memory of the heap, and its `read_exact` does not say how many bytes came.
+// Reads the input to its end, or until a byte too many is there, and answers the image. The loop is written out, since `wanted` and `after_read` decide on
+// each read, of which `only_input` speaks, and the library's `read_to_end` reads into memory of the heap.
 fn read_input<'a, R: Read>(from: &mut R, room: &'a mut [u8]) -> Result<&'a [u8], NotAnImage>
     requires { offsets < length room.old }
     ensures fits { IfOk result (λ image. length image.now ≤ offsets) }
@@ -42,8 +42,8 @@ fn read_input<'a, R: Read>(from: &mut R, room: &'a mut [u8]) -> Result<&'a [u8],
     loop {
         let end = there + wanted(there);
         match after_read(there, from.read(&mut room[there..end])) {
-            ControlFlow::Continue(filled) => there = filled,
-            ControlFlow::Break(input) => {
+            Continue(filled) => there = filled,
+            Break(input) => {
                 let n = input?;
                 return Ok(&room[..n]);
             }
