@@ -8,13 +8,16 @@ use mrc_c::decode::mrc_decode;
 // The most bytes of one input.
 const INPUT: usize = 512;
 
-// Where a line has its budget, its position, its record and its input.
+// Where a line has its budget, behind its reading.
 const BUDGET: usize = 3;
 
+// Where it has its position.
 const POSITION: usize = 6;
 
+// Where it has its record.
 const RECORD: usize = 11;
 
+// Where it has its input.
 const BYTES: usize = 76;
 
 // What stands from a position on.
@@ -43,11 +46,13 @@ impl Line<'_> {
         let mut input = [0u8; INPUT];
         read_bytes(behind(self.stored, BYTES), &mut input[..length]);
         let mut record = [0u64; 5];
+        let budget = self.byte_at(BUDGET);
+        let reading = self.byte_at(0);
         mrc_decode(
             &input[..length],
             usize::from(position),
-            self.byte_at(BUDGET),
-            self.byte_at(0),
+            budget,
+            reading,
             &mut record,
         );
         self.has(&record)
@@ -57,11 +62,8 @@ impl Line<'_> {
     fn has(self, record: &[u64; 5]) -> bool {
         let mut words = [0u8; 32];
         read_bytes(behind(self.stored, RECORD), &mut words);
-        record[4] == 0
-            && record[..4]
-                .iter()
-                .flat_map(|word| word.to_le_bytes())
-                .eq(words)
+        let bytes = record[..4].iter().flat_map(|word| word.to_le_bytes());
+        record[4] == 0 && bytes.eq(words)
     }
 }
 

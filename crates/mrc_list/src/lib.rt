@@ -98,9 +98,9 @@ pub fn list_input<R: Read, W: Write>(from: &mut R, to: &mut W) -> Result<(), Not
 pub fn list(rt: &(impl io::Input + Print + Eprint)) -> ExitCode {
     match list_input(&mut rt.reader(), &mut io::writer(rt)) {
         Ok(()) => ExitCode::SUCCESS,
-        Err(NotListed::Write(error)) if error.kind() == ErrorKind::BrokenPipe => ExitCode::from(
-            BROKEN_PIPE,
-        ),
+        Err(NotListed::Write(error)) if error.kind() == ErrorKind::BrokenPipe => {
+            ExitCode::from(BROKEN_PIPE)
+        }
         Err(why) => {
             let _ = eprintln!(rt; "list: {why}");
             ExitCode::SUCCESS
