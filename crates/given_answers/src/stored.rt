@@ -13,7 +13,8 @@ pub fn empty_room<const N: usize>() -> [u8; N]
     [0; N]
 }
 
-// Reads until the room is full, the input ends or a read fails, and answers what was read.
+// Reads until the room is full, the input ends or a read fails, and answers what was read. The loop is written out, since the library's `read_to_end` reads
+// into memory of the heap.
 pub fn read_full<'a>(from: &mut impl Read, room: &'a mut [u8]) -> &'a [u8] {
     let mut there = 0;
     while let Ok(more @ 1..) = from.read(&mut room[there..]) {
