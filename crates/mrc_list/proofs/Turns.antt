@@ -10,6 +10,7 @@ use borrow.Author.Tests.{lt-ltb, ltb-true, ltb-false}
 use lib.Dec.{ltb}
 use lib.ListN.{length, take, drop, length-append, length-drop}
 use lib.Seq.{take_at}
+use Rattle.std.proofs.Common.{Option, Some, None}
 use Rattle.mrc_instruction.specs.declared.reading.Reading.TheVariants.{One}
 use Rattle.mrc_instruction.specs.Promise.{ExactlyOne}
 use Rattle.mrc_line.specs.declared.page.Page.{Page}
@@ -20,12 +21,7 @@ use Rattle.mrc_line.proofs.Lengths.{line_longest}
 use Rattle.mrc_line.proofs.Lines.{lines_past}
 use Rattle.mrc_line.proofs.Pages.{pages_from_lem}
 use Rattle.mrc_line.proofs.Settled.{page_settled}
-use Rattle.mrc_list.specs.declared.listing.Turn.{Turn}
 use Rattle.mrc_list.specs.Listing.{Turned, Writes, last, page}
-
--- what an answer that is a page tells
-pub paged : (s : List ℕ) (at : ℕ) (out : List ℕ) (r : Turn) (done : List ℕ) (p : Page) → Turned s at out r done → r ≡ Turn.Page p → Turned s at out (Turn.Page p) done
-paged s at out r done p t e = subst (λ (x : Turn). Turned s at out x done) e t
 
 -- a page's buffer: its text stands at the start, and its length is what it was
 front : (s : List ℕ) (at : ℕ) (out : List ℕ) (p : Page) (done : List ℕ) → Paged One s at out p done → take p.len done ≡ text_of One s (page_of One s at (length out))
@@ -49,7 +45,7 @@ module _ (s : List ℕ) (short : length s ≤ offsets) where
 
   -- what stands at the start of a page's buffer, and the lines from its end on
   joined :
-      (at : ℕ) (out : List ℕ) (p : Page) (done : List ℕ) → longest ≤ length out → Turned s at out (Turn.Page p) done →
+      (at : ℕ) (out : List ℕ) (p : Page) (done : List ℕ) → longest ≤ length out → Turned s at out (Some p) done →
       take p.len done ++ text_of One s (lines_from One (length s) s p.next) ≡ text_of One s (lines_from One (length s) s at)
   joined at out p done k t =
       let g = t.1 in
@@ -84,27 +80,27 @@ module _ (s : List ℕ) (short : length s ≤ offsets) where
           (page {done = done} {p = p} (l, g) (again p.next done (omega arith) (omega (arith, as_long s at out p done g))))
 
 -- exactly one answer and buffer meet the promise of a turn: by whether the image has a byte at the position
-pub settled : (s : List ℕ) (at : ℕ) (out : List ℕ) → ExactlyOne {A = Turn × List ℕ} (λ p. Turned s at out p.0 p.1)
+pub settled : (s : List ℕ) (at : ℕ) (out : List ℕ) → ExactlyOne {A = Option Page × List ℕ} (λ p. Turned s at out p.0 p.1)
 settled s at out = go (ltb at (length s)) refl
   where
-    ended : (r : Turn) (done : List ℕ) → length s ≤ at → Turned s at out r done → ◌≡◌ {A = Turn × List ℕ} (r, done) (Turn.Finished, out)
-    ended (Turn.Page p) done h t = absurd (omega (arith, t.0))
-    ended Turn.Finished done h t = ap (λ (x : List ℕ). (Turn.Finished, x)) t.1
+    ended : (r : Option Page) (done : List ℕ) → length s ≤ at → Turned s at out r done → ◌≡◌ {A = Option Page × List ℕ} (r, done) (None, out)
+    ended (Some p) done h t = absurd (omega (arith, t.0))
+    ended None done h t = ap (λ (x : List ℕ). (None, x)) t.1
 
     paged_only :
-        (r : Turn) (done : List ℕ) → at < length s → Turned s at out r done →
-        ◌≡◌ {A = Turn × List ℕ} (r, done) (Turn.Page (page_settled One s at out).answer.0, (page_settled One s at out).answer.1)
-    paged_only (Turn.Page p) done h t = ap (λ (x : Page × List ℕ). (Turn.Page x.0, x.1)) ((page_settled One s at out).only (p, done) t.1)
-    paged_only Turn.Finished done h t = absurd (omega (arith, t.0))
+        (r : Option Page) (done : List ℕ) → at < length s → Turned s at out r done →
+        ◌≡◌ {A = Option Page × List ℕ} (r, done) (Some (page_settled One s at out).answer.0, (page_settled One s at out).answer.1)
+    paged_only (Some p) done h t = ap (λ (x : Page × List ℕ). (Some x.0, x.1)) ((page_settled One s at out).only (p, done) t.1)
+    paged_only None done h t = absurd (omega (arith, t.0))
 
-    go : (b : Bool) → ltb at (length s) ≡ b → ExactlyOne {A = Turn × List ℕ} (λ p. Turned s at out p.0 p.1)
+    go : (b : Bool) → ltb at (length s) ≡ b → ExactlyOne {A = Option Page × List ℕ} (λ p. Turned s at out p.0 p.1)
     go true e =
         let l = ltb-true at (length s) e in
         record {
-          answer = (Turn.Page (page_settled One s at out).answer.0, (page_settled One s at out).answer.1);
+          answer = (Some (page_settled One s at out).answer.0, (page_settled One s at out).answer.1);
           meets = (l, (page_settled One s at out).meets);
           only = λ p t. paged_only p.0 p.1 l t;
         }
     go false e =
         let l = ltb-false at (length s) e in
-        record { answer = (Turn.Finished, out); meets = (l, refl); only = λ p t. ended p.0 p.1 l t }
+        record { answer = (None, out); meets = (l, refl); only = λ p t. ended p.0 p.1 l t }

@@ -5,49 +5,47 @@
 pub mod input;
 pub mod listing;
 
-ghost use Rattle.std.specs.Prelude.{◌≡◌, ◌≤◌, ◌<◌, ◌^◌, length, IfOk, IfSome, OnOk, MatchResult, pos, negsuc};
+ghost use Rattle.std.specs.Prelude.{◌≡◌, ◌≤◌, ◌<◌, length, IfSome, IfOk, IfErr, OnOk, MatchResult};
 ghost use Rattle.mrc_line.specs.Target.{offsets};
-ghost use Rattle.mrc_list.specs.Input.{Fits, Holds};
+ghost use Rattle.mrc_list.specs.declared.input.NotAnImage.TheVariants.{TooLong};
+ghost use Rattle.mrc_list.specs.declared.NotListed.{NotListed};
 ghost use Rattle.mrc_instruction.specs.declared.reading.Reading.TheVariants.{One};
 ghost use Rattle.mrc_line.specs.Page.{lines_of, text_of};
 ghost use Rattle.mrc_list.specs.Listing.{text_for, too_long_text};
-ghost use Rattle.std.specs.Io.KnownBytes.{Appends};
+ghost use Rattle.std.specs.Io.KnownBytes.{Appends, Keeps};
 
-use crate::input::{Input, Progress, after_read, start, wanted};
-use crate::listing::{Turn, next_page, too_long};
+use crate::input::{NotAnImage, START, after_read, wanted};
+use crate::listing::{next_page, too_long};
+use mrc_line::line::OFFSETS;
 use std::io::{self, ErrorKind, Read, Write};
+use std::ops::ControlFlow::{Break, Continue};
 use std::process::ExitCode;
+use thiserror::Error;
+
+// The room for an image, and for the byte that shows that an input is too long for one.
+const IMAGE_ROOM: usize = OFFSETS + 1;
+
+// The room for a page.
+const PAGE_ROOM: usize = 8192;
 
 // What a program ends with that writes to a pipe whose reader went away.
 const BROKEN_PIPE: u8 = 141;
 
-// A read's answer as one number: how many bytes came, or below 0 where it failed.
-fn answer(got: io::Result<usize>) -> isize
-    requires { IfOk got (λ n. n < 2 ^ 63) }
-    ensures { MatchResult got (λ n. result ≡ pos n) (λ e. result ≡ negsuc 0) }
+// Reads the input to its end, or until a byte too many is there, and answers the image. The loop is written out, since `wanted` and `after_read` decide on
+// each read, of which `only_input` speaks, and the library's `read_to_end` reads into memory of the heap.
+fn read_input<'a, R: Read>(from: &mut R, room: &'a mut [u8]) -> Result<&'a [u8], NotAnImage>
+    requires { offsets < length room.old }
+    ensures fits { IfOk result (λ image. length image.now ≤ offsets) }
+    ensures bytes { IfSome (R.remaining from.old) (λ xs. MatchResult result (λ image. image.now ≡ xs) (λ e. e ≡ TooLong → offsets < length xs)) }
 {
-    match got {
-        Ok(n) => n as isize,
-        Err(_) => -1,
-    }
-}
-
-// Reads the input to its end, or until a byte too many is there.
-fn read_input<R: Read>(from: &mut R, image: &mut [u8]) -> Input
-    requires { offsets < length image.old }
-    ensures fits { Fits result }
-    ensures bytes { IfSome (R.remaining from.old) (λ xs. Holds xs image.new result) }
-{
-    let mut there = start();
+    let mut there = START;
     loop {
         let end = there + wanted(there);
-        let got = answer(from.read(&mut image[there..end]));
-        match after_read(there, got) {
-            Progress::More(filled) => {
-                there = filled;
-            }
-            Progress::Read(input) => {
-                return input;
+        match after_read(there, from.read(&mut room[there..end])) {
+            Continue(filled) => there = filled,
+            Break(input) => {
+                let n = input?;
+                return Ok(&room[..n]);
             }
         }
     }
@@ -58,20 +56,13 @@ fn write_listing<W: Write>(to: &mut W, image: &[u8]) -> io::Result<()>
     requires { length image.now ≤ offsets }
     ensures { OnOk result (Appends (W.contents to.old) (W.contents to.new) (text_of One image.now (lines_of One image.now))) }
 {
-    let mut out = [0u8; 8192];
-    let mut at = start();
-    loop {
-        match next_page(image, at, &mut out) {
-            Turn::Page(page) => {
-                let len = page.len;
-                to.write_all(&out[..len])?;
-                at = page.next;
-            }
-            Turn::Finished => {
-                return Ok(());
-            }
-        }
+    let mut out = [0u8; PAGE_ROOM];
+    let mut at = START;
+    while let Some(page) = next_page(image, at, &mut out) {
+        to.write_all(&out[..page.len])?;
+        at = page.next;
     }
+    Ok(())
 }
 
 fn write_too_long<W: Write>(to: &mut W) -> io::Result<()>
@@ -81,30 +72,25 @@ fn write_too_long<W: Write>(to: &mut W) -> io::Result<()>
     to.write_all(&line)
 }
 
-fn cannot_read(rt: &impl Eprint) {
-    let _ = rt.eprintln("list: cannot read standard input");
-}
-
-fn cannot_write(rt: &impl Eprint) {
-    let _ = rt.eprintln("list: cannot write standard output");
-}
-
 // Why an input was not listed: it could not be read, or its listing not written.
-#[derive(Drop)]
+#[derive(Debug, Drop, Error)]
 pub enum NotListed {
+    #[error("cannot read standard input")]
     Read,
+    #[error("cannot write standard output")]
     Write(io::Error),
 }
 
 // Lists the image that the input is. For an input that is too long it says only that.
 pub fn list_input<R: Read, W: Write>(from: &mut R, to: &mut W) -> Result<(), NotListed>
-    ensures { OnOk result (IfSome (R.remaining from.old) (λ xs. Appends (W.contents to.old) (W.contents to.new) (text_for xs))) }
+    ensures listed { OnOk result (IfSome (R.remaining from.old) (λ xs. Appends (W.contents to.old) (W.contents to.new) (text_for xs))) }
+    ensures unread { IfErr result (λ e. e ≡ NotListed.Read → Keeps (W.contents to.old) (W.contents to.new)) }
 {
-    let mut image = [0u8; 65537];
-    match read_input(from, &mut image) {
-        Input::Image(n) => write_listing(to, &image[..n]).map_err(NotListed::Write),
-        Input::TooLong => write_too_long(to).map_err(NotListed::Write),
-        Input::Failed => Err(NotListed::Read),
+    let mut room = [0u8; IMAGE_ROOM];
+    match read_input(from, &mut room) {
+        Ok(image) => write_listing(to, image).map_err(NotListed::Write),
+        Err(NotAnImage::TooLong) => write_too_long(to).map_err(NotListed::Write),
+        Err(NotAnImage::Failed) => Err(NotListed::Read),
     }
 }
 
@@ -112,15 +98,11 @@ pub fn list_input<R: Read, W: Write>(from: &mut R, to: &mut W) -> Result<(), Not
 pub fn list(rt: &(impl io::Input + Print + Eprint)) -> ExitCode {
     match list_input(&mut rt.reader(), &mut io::writer(rt)) {
         Ok(()) => ExitCode::SUCCESS,
-        Err(NotListed::Read) => {
-            cannot_read(rt);
-            ExitCode::SUCCESS
+        Err(NotListed::Write(error)) if error.kind() == ErrorKind::BrokenPipe => {
+            ExitCode::from(BROKEN_PIPE)
         }
-        Err(NotListed::Write(error)) => {
-            if error.kind() == ErrorKind::BrokenPipe {
-                return ExitCode::from(BROKEN_PIPE);
-            }
-            cannot_write(rt);
+        Err(why) => {
+            let _ = eprintln!(rt; "list: {why}");
             ExitCode::SUCCESS
         }
     }

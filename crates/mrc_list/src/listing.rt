@@ -12,20 +12,12 @@ pub fn too_long() -> [u8; 9]
     *b"TOO LONG\n"
 }
 
-// A page to write, with the position at which the next one starts; or every page is written.
-#[derive(Clone, Copy)]
-pub enum Turn {
-    Page(Page),
-    Finished,
-}
-
-// Makes the page that starts at a position of the image, while the image has a byte there.
-pub fn next_page(image: &[u8], at: usize, out: &mut [u8]) -> Turn
+// Makes the page that starts at a position of the image, while the image has a byte there; behind the last one there is none.
+pub fn next_page(image: &[u8], at: usize, out: &mut [u8]) -> Option<Page>
     ensures { Turned image.now at out.old result out.new }
 {
     if at < image.len() {
-        let page = write_page(image, at, Reading::One, out);
-        return Turn::Page(page);
+        return Some(write_page(image, at, Reading::One, out));
     }
-    Turn::Finished
+    None
 }

@@ -1,9 +1,9 @@
--- Each line moves the position on, and counts one.
-use Rattle.std.proofs.Common.{length, ◌-◌, ◌+◌, ◌≤◌}
+-- Each line is counted once, and has a byte at least of what is stored.
+use Rattle.std.proofs.Common.{length, ◌+◌, ◌≤◌}
 use Rattle.given_answers.proofs.compare_all.Given as goal
 
-abbrev pub invariant-loop-from : goal.invariant-loop-from
-invariant-loop-from g l = (l.agree + l.differ ≤ l.from) × (l.from ≤ length l.s + 1)
-
-abbrev pub decreases-loop-from : goal.decreases-loop-from
-decreases-loop-from g l = length l.s + 1 - l.from
+abbrev pub invariant-loop-line : goal.invariant-loop-line
+invariant-loop-line g l =
+    (goal.iterator-loop-line g).can_next l.line-iterator ×
+    (goal.iterator-loop-line g).is_finite l.line-iterator ×
+    (l.agree + l.differ + length l.line-iterator.0.now ≤ length l.stored)

@@ -7,7 +7,7 @@ use Rattle.mrc_list.proofs.read_input.Given as goal
 abbrev pub invariant-loop-filled : goal.invariant-loop-filled
 invariant-loop-filled g l = record {
   within : l.there ≤ offsets;
-  bytes : Consumes (g.R.Read.remaining l.initial.from) (g.R.Read.remaining l.from) (take l.there l.image);
+  bytes : Consumes (g.R.Read.remaining l.initial.from) (g.R.Read.remaining l.from) (take l.there l.room);
 }
 
 abbrev pub decreases-loop-filled : goal.decreases-loop-filled

@@ -1,9 +1,0 @@
--- At most 32 bytes are compared.
-use Rattle.std.proofs.Common.{◌-◌, ◌≤◌}
-use Rattle.given_answers.proofs.same_record.Given as goal
-
-abbrev pub invariant-loop-i : goal.invariant-loop-i
-invariant-loop-i l = l.i ≤ 32
-
-abbrev pub decreases-loop-i : goal.decreases-loop-i
-decreases-loop-i l = 32 - l.i

@@ -1,0 +1,88 @@
+// The lines of the stored answers.
+ghost use Rattle.std.specs.Prelude.{◌≡◌, ◌-◌, length};
+ghost use Rattle.std.specs.Iterator.{at_most};
+
+use crate::hex::{byte, read_bytes};
+use mrc_c::decode::mrc_decode;
+
+// The most bytes of one input.
+const INPUT: usize = 512;
+
+// Where a line has its budget, behind its reading.
+const BUDGET: usize = 3;
+
+// Where it has its position.
+const POSITION: usize = 6;
+
+// Where it has its record.
+const RECORD: usize = 11;
+
+// Where it has its input.
+const BYTES: usize = 76;
+
+// What stands from a position on.
+fn behind(s: &[u8], at: usize) -> &[u8]
+    ensures { length result.now ≡ length s.now - at }
+{
+    s.get(at..).unwrap_or(&[])
+}
+
+// A line, without its LF; and all that is stored from its start on, where a field is looked for that the line is too short for.
+#[derive(Clone, Copy)]
+pub struct Line<'a> {
+    pub text: &'a [u8],
+    stored: &'a [u8],
+}
+
+impl Line<'_> {
+    fn byte_at(self, at: usize) -> u8 {
+        byte(behind(self.stored, at))
+    }
+
+    // Whether the decoder's answer on the line is the stored one.
+    pub fn agrees(self) -> bool {
+        let position = u16::from_be_bytes([self.byte_at(POSITION), self.byte_at(POSITION + 2)]);
+        let length = behind(self.text, BYTES).len().div_ceil(2).min(INPUT);
+        let mut input = [0u8; INPUT];
+        read_bytes(behind(self.stored, BYTES), &mut input[..length]);
+        let mut record = [0u64; 5];
+        let budget = self.byte_at(BUDGET);
+        let reading = self.byte_at(0);
+        mrc_decode(
+            &input[..length],
+            usize::from(position),
+            budget,
+            reading,
+            &mut record,
+        );
+        self.has(&record)
+    }
+
+    // Whether a record's first four words are the line's, each with its lowest byte first, and there is no third operand.
+    fn has(self, record: &[u64; 5]) -> bool {
+        let mut words = [0u8; 32];
+        read_bytes(behind(self.stored, RECORD), &mut words);
+        let bytes = record[..4].iter().flat_map(|word| word.to_le_bytes());
+        record[4] == 0 && bytes.eq(words)
+    }
+}
+
+// The lines that are left.
+#[derive(Drop)]
+pub struct Lines<'a>(pub &'a [u8]);
+
+impl<'a> Iterator for Lines<'a> {
+    type Item = Line<'a>;
+
+    ghost remaining = { λ s. at_most (length s.0.now) };
+
+    fn next(&mut self) -> Option<Line<'a>> {
+        let stored = self.0;
+        if stored.is_empty() {
+            return None;
+        }
+        let text = stored.split(|b| *b == b'\n').next()?;
+        self.0 = behind(stored, text.len() + 1);
+        Some(Line { text, stored })
+    }
+}
