@@ -1,5 +1,3 @@
-pub mod Downwards
 pub mod Distinct
 pub mod Tiles
-pub mod Written
 pub mod Main

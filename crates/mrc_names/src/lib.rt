@@ -1,6 +1,5 @@
 // The operations' names: their letters end to end, and where each name starts.
 #![tactic(auto)]
 
-mod letters;
 pub mod names;
 mod places;
