@@ -1,4 +1,4 @@
--- Five pieces in a row, and the bytes that are shown are the first seven.
+-- Four pieces in a row, and the bytes that are shown are the first seven.
 -- Assumes nothing.
 use Rattle.std.proofs.Common.{ℕ, List, ◌++◌, ap}
 use Rattle.mrc_line.specs.Text.{bytes, hex4, pairs, padded, shown, field_width}
@@ -10,5 +10,5 @@ pub returns : goal.returns
 unfolding head_text
 returns c =
     same
-    (ap (λ (l : List ℕ). hex4 c.args.start ++ (bytes "  " ++ (padded field_width (pairs l) ++ bytes "  "))) (first shown c.least-n.result c.args.taken.now c.least-n.ensures))
-    (then c.put_hex2-a.ensures (then c.put_hex2-b.ensures (then c.put_spaces-c.ensures (then c.put_field-d.ensures c.put_spaces.ensures))))
+    (ap (λ (l : List ℕ). hex4 c.args.start ++ (bytes "  " ++ (padded field_width (pairs l) ++ bytes "  "))) (first shown c.min-n.result c.args.taken.now c.min-n.ensures))
+    (then c.put_hex4-b.ensures (then c.put_spaces-c.ensures (then c.put_field-d.ensures c.put_spaces.ensures)))
