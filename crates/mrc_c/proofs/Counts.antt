@@ -1,6 +1,7 @@
 -- The counts of a decode are below 65,536 under any budget of a byte, and so are a ModRM's, a line's length and the bytes that it takes: nothing of
 -- them is lost in two bytes. The text of a page is below 4,294,967,296 bytes long.
 -- Assumes nothing.
+use Rattle.std.specs.Prelude.{Result, Ok, Err}
 use mathlib.Core.Path.{◌≡◌, refl, ap}
 use mathlib.Core.Bool.{Bool, true, false, cond}
 use mathlib.Core.List.{List, [], ◌∷◌}

@@ -5,9 +5,6 @@ use lib.Seq.{take_all}
 use Rattle.mrc_line.proofs.Put.{then, one, none, within, same}
 use Rattle.mrc_line.proofs.text.put_bytes.Goals as goal
 
-pub loop-b-init : goal.loop-b-init
-loop-b-init c = record { long = refl; put = none _ _ }
-
 pub loop-b-preserved : goal.loop-b-preserved
 loop-b-preserved c =
     let l = c.loop-b in

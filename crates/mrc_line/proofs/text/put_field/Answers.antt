@@ -6,9 +6,6 @@ use Rattle.mrc_line.specs.Text.{pairs, padded, field_width}
 use Rattle.mrc_line.proofs.Put.{inside, pair_more, pairs_length, same}
 use Rattle.mrc_line.proofs.text.put_field.Goals as goal
 
-pub loop-b-init : goal.loop-b-init
-loop-b-init c = record { place = omega arith; long = refl; put = λ s h p. p }
-
 pub loop-b-preserved : goal.loop-b-preserved
 loop-b-preserved c =
     let l = c.loop-b in
