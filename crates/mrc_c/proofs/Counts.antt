@@ -1,6 +1,7 @@
 -- The counts of a decode are below 65,536 under any budget of a byte, and so are a ModRM's, a line's length and the bytes that it takes: nothing of
 -- them is lost in two bytes. The text of a page is below 4,294,967,296 bytes long.
 -- Assumes nothing.
+use Rattle.std.specs.Prelude.{Result, Ok, Err}
 use mathlib.Core.Path.{◌≡◌, refl, ap}
 use mathlib.Core.Bool.{Bool, true, false, cond}
 use mathlib.Core.List.{List, [], ◌∷◌}
@@ -24,8 +25,8 @@ use Rattle.mrc_rules.specs.Answer.{number, taken, prefixes}
 use Rattle.mrc_rules.specs.Decode.{decode_at}
 use Rattle.mrc_rules.proofs.Lengths.{at_most_six}
 use Rattle.mrc_rules.proofs.Counting.{prefix_count}
-use Rattle.mrc_line.specs.declared.line.LineAnswer.{LineAnswer}
-use Rattle.mrc_line.specs.Line.{answer_of, line_values}
+use Rattle.mrc_line.specs.declared.line.Written.{Written}
+use Rattle.mrc_line.specs.Line.{a_line, answer_of, line_values}
 use Rattle.mrc_line.specs.Page.{text_of, taken_of, page_of}
 use Rattle.mrc_line.proofs.Takes.{line_takes}
 use Rattle.mrc_line.proofs.Lengths.{line_longest}
@@ -45,21 +46,21 @@ module _ (x : Reading) (s : List ℕ) (at b : ℕ) (h : b < 256) where
   step_whole d e = rw (e, mod-eq_of_lt taken_small, mod-eq_of_lt prefixes_small) refl
 
 module _ (x : Reading) (s : List ℕ) (at room : ℕ) where
-  line_small : (r : LineAnswer) → r ≡ answer_of x s at room → (length_of r < words) × ((line_values x s at r).taken < words)
-  line_small (LineAnswer.Line len taken) e =
-      let t = told x s at room len taken e in
+  line_small : (r : Result Written Refusal) → r ≡ answer_of x s at room → (length_of r < words) × ((line_values x s at r).taken < words)
+  line_small (Ok line) e =
+      let t = told x s at room line.len line.taken e in
       (omega (arith, t.len_is, line_longest x s at), omega (arith, t.taken_is, (line_takes x s at t.inside).few))
-  line_small (LineAnswer.Refused e) h = (omega arith, omega arith)
+  line_small (Err e) h = (omega arith, omega arith)
 
   pub lengths_small : (length_of (answer_of x s at room) < words) × ((line_values x s at (answer_of x s at room)).taken < words)
   lengths_small = line_small (answer_of x s at room) refl
 
-  pub line_whole : (len taken : ℕ) → LineAnswer.Line len taken ≡ answer_of x s at room → len % words + words * (taken % words) ≡ line_code x s at (answer_of x s at room)
+  pub line_whole : (len taken : ℕ) → a_line len taken ≡ answer_of x s at room → len % words + words * (taken % words) ≡ line_code x s at (answer_of x s at room)
   line_whole len taken e =
-      let k = line_small (LineAnswer.Line len taken) e in
+      let k = line_small (a_line len taken) e in
       rw (mod-eq_of_lt k.0, mod-eq_of_lt k.1) (omega (arith, ap (line_code x s at) e))
 
-  pub refusal_whole : (e : Refusal) → LineAnswer.Refused e ≡ answer_of x s at room → double_words * number_of e ≡ line_code x s at (answer_of x s at room)
+  pub refusal_whole : (e : Refusal) → Err e ≡ answer_of x s at room → double_words * number_of e ≡ line_code x s at (answer_of x s at room)
   refusal_whole e h = omega (arith, ap (line_code x s at) h)
 
   pub page_small : (length (text_of x s (page_of x s at room)) < double_words) × (taken_of x s (page_of x s at room) ≤ words)

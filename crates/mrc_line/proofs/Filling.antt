@@ -4,10 +4,9 @@ use Rattle.std.proofs.Common.{◌≡◌, ℕ, ◌+◌, ◌-◌, ◌<◌, ◌≤�
 use borrow.Rule.Slice.PartMut.{mid_of, put_mid}
 use Rattle.mrc_instruction.specs.declared.reading.Reading.{Reading}
 use Rattle.mrc_rules.specs.Decode.{decode_at}
-use Rattle.mrc_line.specs.declared.line.LineAnswer.TheVariants.{Line}
 use Rattle.mrc_line.specs.Text.{Put}
 use Rattle.mrc_line.specs.Target.{offsets}
-use Rattle.mrc_line.specs.Line.{head_text, body_text, line_end, step_taken, step_text, line_text, line_taken, Listed, longest, budget}
+use Rattle.mrc_line.specs.Line.{a_line, head_text, body_text, line_end, step_taken, step_text, line_text, line_taken, Listed, longest, budget}
 use Rattle.mrc_line.specs.Page.{Paging, Roomy}
 use Rattle.mrc_line.proofs.Answers.{written}
 use Rattle.mrc_line.proofs.Lengths.{line_longest}
@@ -39,14 +38,14 @@ module _ (x : Reading) where
   module _ {s : List ℕ} {at : ℕ} {out₀ out : List ℕ} {o next : ℕ} (p : Filling x s at out₀ out o next) where
     -- a turn, in which a line was put where there was room for any: in a buffer for one it is the first
     pub fills :
-        (len taken : ℕ) (last : List ℕ) → Listed x s next (mid_of o (length out - o) out) (Line len taken) last →
+        (len taken : ℕ) (last : List ℕ) → Listed x s next (mid_of o (length out - o) out) (a_line len taken) last →
         length last ≡ length (mid_of o (length out - o) out) → next < length s → longest ≤ length out - o →
         Filling x s at out₀ (put_mid o (length out - o) out last) (o + len) (next + taken)
     fills len taken last l k h r =
-        let g = grown x p.paging (Line len taken) last l len taken refl in
-        let t = tells x p.paging (Line len taken) last l len taken refl in
+        let g = grown x p.paging (a_line len taken) last l len taken refl in
+        let t = tells x p.paging (a_line len taken) last l len taken refl in
         record {
-          paging = goes_on x p.paging (Line len taken) last l len taken refl k h;
+          paging = goes_on x p.paging (a_line len taken) last l len taken refl k h;
           few = λ e.
               ⊎_elim
               (λ n. inr (

@@ -1,5 +1,6 @@
 -- What is shown of the listing line. `target` promises an equation, which exactly one answer meets (`an_equation_settles` of mrc_instruction).
 -- Assumes nothing.
+use Rattle.std.specs.Prelude.{Result, Err}
 use Rattle.std.proofs.Common.{◌≡◌, ℕ, ◌-◌, ◌*◌, ◌<◌, ◌≤◌, List, [], ◌∷◌, ◌++◌, map, length, take, drop, pos, negsuc, refl, le_trans}
 use Rattle.mrc_instruction.specs.declared.errors.Refusal.{Refusal}
 use Rattle.mrc_instruction.specs.declared.reading.Reading.{Reading}
@@ -19,7 +20,7 @@ use Rattle.mrc_rules.specs.Operands.{byte_at}
 use Rattle.mrc_rules.specs.Reaches.{reach_of}
 use Rattle.mrc_rules.specs.Kept.{kept_of}
 use Rattle.mrc_rules.specs.Written.{written_of}
-use Rattle.mrc_line.specs.declared.line.LineAnswer.{LineAnswer}
+use Rattle.mrc_line.specs.declared.line.Written.{Written}
 use Rattle.mrc_line.specs.declared.page.Page.{Page}
 use Rattle.mrc_line.specs.declared.printed.Printed.{Printed}
 use Rattle.mrc_line.specs.Text.{bytes, hex2}
@@ -39,14 +40,14 @@ use Rattle.mrc_line.proofs.Example as Example
 
 module _ (x : Reading) where
   -- the promise of each call that writes is met by exactly one answer and one buffer, on all inputs
-  pub line_settled : (image : List ℕ) (at : ℕ) (out : List ℕ) → ExactlyOne {A = LineAnswer × List ℕ} (λ p. Listed x image at out p.0 p.1)
+  pub line_settled : (image : List ℕ) (at : ℕ) (out : List ℕ) → ExactlyOne {A = Result Written Refusal × List ℕ} (λ p. Listed x image at out p.0 p.1)
   line_settled = Settled.line_settled x
 
   pub page_settled : (image : List ℕ) (at : ℕ) (out : List ℕ) → ExactlyOne {A = Page × List ℕ} (λ p. Paged x image at out p.0 p.1)
   page_settled = Settled.page_settled x
 
   -- a call that is refused leaves the buffer as it was
-  pub refused_unchanged : (image : List ℕ) (at : ℕ) (out : List ℕ) (e : Refusal) (done : List ℕ) → Listed x image at out (LineAnswer.Refused e) done → done ≡ out
+  pub refused_unchanged : (image : List ℕ) (at : ℕ) (out : List ℕ) (e : Refusal) (done : List ℕ) → Listed x image at out (Err e) done → done ≡ out
   refused_unchanged = Settled.unchanged x
 
   -- no line is longer than `longest`

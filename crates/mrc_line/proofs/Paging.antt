@@ -1,14 +1,14 @@
 -- The loop of a page: what stands in the buffer so far are whole lines, and the page is these and what still fits from the next position on.
 -- Assumes nothing.
+use Rattle.std.specs.Prelude.{Result, Err}
 use Rattle.std.proofs.Common.{◌≡◌, ℕ, zero, suc, ◌+◌, ◌-◌, ◌<◌, ◌≤◌, List, [], ◌∷◌, ◌++◌, length, drop, sym, refl, ap, ◌∙◌, subst, append_assoc, append-nil, arith, take-append-drop}
 use borrow.Rule.Slice.PartMut.{mid_of, put_mid, put_same, same_len_mid}
 use Rattle.mrc_instruction.specs.declared.reading.Reading.{Reading}
 use Rattle.mrc_instruction.specs.declared.errors.Refusal.{Refusal}
-use Rattle.mrc_line.specs.declared.line.LineAnswer.{LineAnswer}
-use Rattle.mrc_line.specs.declared.line.LineAnswer.TheVariants.{Line, Refused}
+use Rattle.mrc_line.specs.declared.line.Written.{Written}
 use Rattle.mrc_line.specs.Text.{Put}
 use Rattle.mrc_line.specs.Target.{offsets}
-use Rattle.mrc_line.specs.Line.{line_text, line_taken, answer_of, after, Listed, longest}
+use Rattle.mrc_line.specs.Line.{a_line, line_text, line_taken, answer_of, after, Listed, longest}
 use Rattle.mrc_line.specs.Page.{lines_from, text_of, taken_of, fitting, page_of, Paged, Paging}
 use Rattle.mrc_line.proofs.Put.{then, none}
 use Rattle.mrc_line.proofs.Parts.{mid_length, put_behind}
@@ -45,7 +45,7 @@ module _ (x : Reading) where
 
   -- a turn, in which a line call on the rest of the buffer answered r and left `last` there
   module _
-      {s : List ℕ} {at : ℕ} {out₀ out : List ℕ} {o next : ℕ} (p : Paging x s at out₀ out o next) (r : LineAnswer) (last : List ℕ)
+      {s : List ℕ} {at : ℕ} {out₀ out : List ℕ} {o next : ℕ} (p : Paging x s at out₀ out o next) (r : Result Written Refusal) (last : List ℕ)
       (l : Listed x s next (mid_of o (length out - o) out) r last) where
     -- the room that the call was given
     room_is : length (mid_of o (length out - o) out) ≡ length out₀ - o
@@ -58,7 +58,7 @@ module _ (x : Reading) where
     left_in : last ≡ after r (line_text x s next) (mid_of o (length out - o) out)
     left_in = l.bytes ∙ sym (ap (λ a. after a (line_text x s next) (mid_of o (length out - o) out)) l.answer)
 
-    module _ (len taken : ℕ) (e : r ≡ Line len taken) where
+    module _ (len taken : ℕ) (e : r ≡ a_line len taken) where
       pub tells : Told x s next (length out₀ - o) len taken
       tells = told x s next (length out₀ - o) len taken (sym e ∙ answered)
 
@@ -106,7 +106,7 @@ module _ (x : Reading) where
       goes_on k h = by_count k h p.f p.left p.page
 
     -- a turn that was refused leaves the buffer as it was
-    pub as_it_was : (e : Refusal) → r ≡ Refused e → put_mid o (length out - o) out last ≡ out
+    pub as_it_was : (e : Refusal) → r ≡ Err e → put_mid o (length out - o) out last ≡ out
     as_it_was e h =
         ap (put_mid o (length out - o) out) (left_in ∙ ap (λ a. after a (line_text x s next) (mid_of o (length out - o) out)) h)
         ∙ put_same o (length out - o) out
@@ -146,7 +146,7 @@ module _ (x : Reading) where
     stopped (suc f) g k r = ap (fitting x s (length out₀ - o)) (lines_more x f s next k) ∙ stops x s (length out₀ - o) next (lines_from x f s (next + line_taken x s next)) r
 
     pub ends_refused :
-        next < length s → (r : LineAnswer) (last : List ℕ) → Listed x s next (mid_of o (length out - o) out) r last → (e : Refusal) → r ≡ Refused e →
+        next < length s → (r : Result Written Refusal) (last : List ℕ) → Listed x s next (mid_of o (length out - o) out) r last → (e : Refusal) → r ≡ Err e →
         Paged x s at out₀ (record { len = o; next = next }) (put_mid o (length out - o) out last)
     ends_refused k r last l e q =
         subst (λ (d : List ℕ). Paged x s at out₀ (record { len = o; next = next }) d) (sym (as_it_was p r last l e q))

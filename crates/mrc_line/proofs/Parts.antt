@@ -1,6 +1,6 @@
--- A part of a buffer, lent from o on, with t put at its start.
+-- A part of a buffer that is lent: from o on, with t put at its start; or written over whole.
 -- Assumes nothing.
-use Rattle.std.proofs.Common.{◌≡◌, ℕ, ◌+◌, ◌-◌, ◌≤◌, List, ◌++◌, length, take, drop, sym, refl, ap, ◌∙◌, append_assoc, arith, length-append, length-drop, take-append-drop, length-take-le, drop-drop, take_at, drop_at}
+use Rattle.std.proofs.Common.{◌≡◌, ℕ, ◌+◌, ◌-◌, ◌≤◌, List, ◌++◌, length, take, drop, sym, refl, ap, ◌∙◌, subst, append_assoc, arith, length-append, length-drop, take-append-drop, length-take-le, drop-drop, take_at, drop_at}
 use borrow.Rule.Slice.PartMut.{mid_of, post_of, put_mid}
 use lib.Seq.{drop-append-le}
 use Rattle.mrc_line.specs.Text.{Put}
@@ -26,3 +26,18 @@ put_behind d o t e h g q =
       text = ap (take (o + length t)) split ∙ take_at (take o d ++ t) (y ++ post_of o k d) (o + length t) front;
       rest = ap (drop (o + length t)) split ∙ drop_at (take o d ++ t) (y ++ post_of o k d) (o + length t) front ∙ after;
     }
+
+over : (d : List ℕ) (at k e : ℕ) (t : List ℕ) → length t ≡ k → e ≡ at + k → e ≤ length d → Put k d at t (put_mid at k d t) e
+over d at k e t l q h =
+    let split : put_mid at k d t ≡ (take at d ++ t) ++ post_of at k d = sym (append_assoc (take at d) t (post_of at k d)) in
+    let front : length (take at d ++ t) ≡ e = length-append (take at d) t ∙ omega (arith, length-take-le at d (omega arith)) in
+    record {
+      end = omega arith;
+      most = omega arith;
+      text = ap (take e) split ∙ take_at (take at d ++ t) (post_of at k d) e front;
+      rest = ap (drop e) split ∙ drop_at (take at d ++ t) (post_of at k d) e front ∙ drop-drop k at d ∙ ap (λ (n : ℕ). drop n d) (sym q);
+    }
+
+pub put_over :
+    {d u : List ℕ} {at k e : ℕ} {t : List ℕ} → u ≡ t → length t ≡ k → e ≡ at + k → e ≤ length d → Put k d at t (put_mid at k d u) e
+put_over {d} {u} {at} {k} {e} {t} p l q h = subst (λ (x : List ℕ). Put k d at t (put_mid at k d x) e) (sym p) (over d at k e t l q h)

@@ -111,11 +111,3 @@ pair_more n l b h =
     ap (λ (x : List ℕ). p ++ (hex2 b ++ x)) (blanks 2 (n - length p) ∙ ap (λ (m : ℕ). replicate {A = ℕ} m 32) z)
     ∙ sym (append_assoc p (pairs (b ∷ [])) (replicate (n - length (p ++ pairs (b ∷ []))) 32))
     ∙ ap (padded n) (sym (pairs_append l (b ∷ [])))
-
--- the first n of a list, by the shorter of n and its length
-pub first : (n k : ℕ) (l : List ℕ) → k ≡ min n (length l) → take k l ≡ take n l
-first zero k l e = let z : k ≡ 0 = omega arith in ap (λ (m : ℕ). take m l) z
-first (suc n) k [] e = let z : k ≡ 0 = omega arith in ap (λ (m : ℕ). take {A = ℕ} m []) z
-first (suc n) k (x ∷ l) e =
-    let z : k ≡ suc (min n (length l)) = omega arith in
-    ap (λ (m : ℕ). take m (x ∷ l)) z ∙ ap (λ (t : List ℕ). x ∷ t) (first n (min n (length l)) l refl)

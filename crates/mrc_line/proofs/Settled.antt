@@ -1,10 +1,11 @@
 -- Exactly one answer and buffer meet the promise of a line call, and of a page call: each promise is an equation for the one and for the other.
 -- Assumes nothing.
+use Rattle.std.specs.Prelude.{Result, Err}
 use Rattle.std.proofs.Common.{◌≡◌, ℕ, ◌+◌, ◌-◌, ◌≤◌, Bool, true, false, cond, ltb, leb, List, [], ◌∷◌, ◌++◌, length, drop, sym, refl, ap, ◌∙◌, arith, length-append, leb-true}
 use Rattle.mrc_instruction.specs.declared.reading.Reading.{Reading}
 use Rattle.mrc_instruction.specs.declared.errors.Refusal.{Refusal}
 use Rattle.mrc_instruction.specs.Promise.{ExactlyOne}
-use Rattle.mrc_line.specs.declared.line.LineAnswer.{LineAnswer}
+use Rattle.mrc_line.specs.declared.line.Written.{Written}
 use Rattle.mrc_line.specs.declared.page.Page.{Page}
 use Rattle.mrc_line.specs.Target.{offsets}
 use Rattle.mrc_line.specs.Line.{line_text, answer_of, after, Listed}
@@ -13,7 +14,7 @@ use Rattle.mrc_line.proofs.Answers.{line_values_lem}
 use Rattle.mrc_line.proofs.Paging.{page_moves}
 
 module _ (x : Reading) where
-  pub line_settled : (s : List ℕ) (at : ℕ) (out : List ℕ) → ExactlyOne {A = LineAnswer × List ℕ} (λ p. Listed x s at out p.0 p.1)
+  pub line_settled : (s : List ℕ) (at : ℕ) (out : List ℕ) → ExactlyOne {A = Result Written Refusal × List ℕ} (λ p. Listed x s at out p.0 p.1)
   line_settled s at out =
       let a = answer_of x s at (length out) in
       let d = after a (line_text x s at) out in
@@ -24,7 +25,7 @@ module _ (x : Reading) where
       }
 
   -- a refused call changes no byte
-  pub unchanged : (s : List ℕ) (at : ℕ) (out : List ℕ) (e : Refusal) (done : List ℕ) → Listed x s at out (LineAnswer.Refused e) done → done ≡ out
+  pub unchanged : (s : List ℕ) (at : ℕ) (out : List ℕ) (e : Refusal) (done : List ℕ) → Listed x s at out (Err e) done → done ≡ out
   unchanged s at out e done l = l.bytes ∙ sym (ap (λ a. after a (line_text x s at) out) l.answer)
 
   -- what fits is no longer than the room

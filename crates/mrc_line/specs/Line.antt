@@ -10,7 +10,7 @@ use Rattle.mrc_instruction.specs.Values.{Values, carrying, refused_with}
 use Rattle.mrc_names.specs.Names.{name_of}
 use Rattle.mrc_rules.specs.declared.Answer.{Answer}
 use Rattle.mrc_rules.specs.Decode.{decode_at}
-use Rattle.mrc_line.specs.declared.line.LineAnswer.{LineAnswer}
+use Rattle.mrc_line.specs.declared.line.Written.{Written}
 use Rattle.mrc_line.specs.Target.{offsets}
 use Rattle.mrc_line.specs.Text.{bytes, hex2, hex4, pairs, padded, shown, field_width}
 use Rattle.mrc_line.specs.Operands.{segment_text, operands_text}
@@ -78,6 +78,10 @@ longest = 93
 abbrev pub budget : ℕ
 budget = 15
 
+-- the answer that a line was written, by its length and the bytes taken
+abbrev pub a_line : ℕ → ℕ → Result Written Refusal
+a_line len taken = Ok (record { len = len; taken = taken })
+
 -- in each reading
 module _ (x : Reading) where
   -- the line at a position of an image, the bytes that it accounts for, and its prefixes
@@ -91,18 +95,18 @@ module _ (x : Reading) where
   line_prefixes s at = step_prefixes (decode_at x s at budget)
 
   -- rule 12.9: the refusals in their order; else the line's length and the bytes taken
-  unfoldable pub answer_of : List ℕ → ℕ → ℕ → LineAnswer
+  unfoldable pub answer_of : List ℕ → ℕ → ℕ → Result Written Refusal
   answer_of s at room =
-      cond (nat_lt offsets (length s)) (LineAnswer.Refused Refusal.ImageTooLong)
-      (cond (nat_lt (length s) at) (LineAnswer.Refused Refusal.OutsideInput)
-      (cond (length s == at) (LineAnswer.Refused Refusal.EndOfInput)
-      (cond (nat_lt room (length (line_text s at))) (LineAnswer.Refused Refusal.NoRoom)
-      (LineAnswer.Line (length (line_text s at)) (line_taken s at)))))
+      cond (nat_lt offsets (length s)) (Err Refusal.ImageTooLong)
+      (cond (nat_lt (length s) at) (Err Refusal.OutsideInput)
+      (cond (length s == at) (Err Refusal.EndOfInput)
+      (cond (nat_lt room (length (line_text s at))) (Err Refusal.NoRoom)
+      (a_line (length (line_text s at)) (line_taken s at)))))
 
   -- what an answer says in numbers, by the image and the position that were asked for
-  abbrev pub line_values : List ℕ → ℕ → LineAnswer → Values
-  line_values s at (LineAnswer.Line len taken) = carrying 0 0 taken (line_prefixes s at)
-  line_values s at (LineAnswer.Refused e) = refused_with e 0 0
+  abbrev pub line_values : List ℕ → ℕ → Result Written Refusal → Values
+  line_values s at (Ok line) = carrying 0 0 line.taken (line_prefixes s at)
+  line_values s at (Err e) = refused_with e 0 0
 
   -- the rows that the table of refusals has for a line call, in the order of their tests, and else a line's
   unfoldable pub values_at : List ℕ → ℕ → ℕ → Values
@@ -114,12 +118,12 @@ module _ (x : Reading) where
       (carrying 0 0 (line_taken s at) (line_prefixes s at)))))
 
 -- rule 12.10: what a buffer holds after an answer
-abbrev pub after : LineAnswer → List ℕ → List ℕ → List ℕ
-after (LineAnswer.Line len taken) text out = text ++ drop len out
-after (LineAnswer.Refused e) text out = out
+abbrev pub after : Result Written Refusal → List ℕ → List ℕ → List ℕ
+after (Ok line) text out = text ++ drop line.len out
+after (Err e) text out = out
 
 -- rules 12.9 and 12.10: a line call's answer r, and its buffer before the call and after it
-pub record Listed (x : Reading) (s : List ℕ) (at : ℕ) (out : List ℕ) (r : LineAnswer) (done : List ℕ) : Type 0 where
+pub record Listed (x : Reading) (s : List ℕ) (at : ℕ) (out : List ℕ) (r : Result Written Refusal) (done : List ℕ) : Type 0 where
   pub answer : r ≡ answer_of x s at (length out)
   pub values : line_values x s at r ≡ values_at x s at (length out)
   pub bytes : done ≡ after (answer_of x s at (length out)) (line_text x s at) out

@@ -1,5 +1,5 @@
 -- Rule 12.4: the text of operands.
-use Rattle.std.specs.Prelude.{ℕ, ◌/◌, ◌%◌, List, [], ◌∷◌, ◌++◌, ℤ, pos, negsuc, slice_index_or, unsigned_abs}
+use Rattle.std.specs.Prelude.{ℕ, List, [], ◌∷◌, ◌++◌, ℤ, pos, negsuc, slice_index_or, unsigned_abs}
 use Rattle.mrc_instruction.specs.declared.reading.Reading.{Reading}
 use Rattle.mrc_instruction.specs.declared.reading.Reading.TheVariants.{One, Two}
 use Rattle.mrc_instruction.specs.declared.register.RegisterEncoding.{RegisterEncoding}
@@ -15,8 +15,6 @@ use Rattle.mrc_instruction.specs.declared.operand.Immediate.{Immediate}
 use Rattle.mrc_instruction.specs.declared.operand.Operand.{Operand}
 use Rattle.mrc_instruction.specs.declared.instruction.OperandSet.{OperandSet}
 use Rattle.mrc_instruction.specs.declared.operation.Operation.{Operation}
-use Rattle.mrc_instruction.specs.Register.{register_of}
-use Rattle.mrc_instruction.specs.Operand.{size_by}
 use Rattle.mrc_line.specs.declared.printed.Printed.{Printed}
 use Rattle.mrc_line.specs.Text.{bytes, hex2, hex4}
 use Rattle.mrc_line.specs.Printed.{alone, beside}
@@ -117,7 +115,3 @@ operands_text x written operation start taken OperandSet.None = []
 operands_text x written operation start taken (OperandSet.Destination destination) = bytes " " ++ operand_text x written (alone operation start taken) destination
 operands_text x written operation start taken (OperandSet.DestinationAndSource destination source) =
     bytes " " ++ (operand_text x written beside destination ++ (bytes ", " ++ operand_text x written beside source))
-
--- Internal: a register's name by number: the low three bits are the register's field, and the bit above them is the size's.
-abbrev pub register_name_at : ℕ → List ℕ
-register_name_at n = register_text (register_of (n % 8)) (size_by (n / 8))

@@ -1,11 +1,10 @@
 -- A listing has a line for every step, the first at position 0; a page is as many whole lines of it as fit, from a position on.
 use Rattle.std.specs.Prelude.{◌≡◌, ℕ, zero, suc, ◌+◌, ◌-◌, ◌<◌, ◌≤◌, cond, List, [], ◌∷◌, ◌++◌, length, take, drop, nat_le, nat_lt}
 use Rattle.mrc_instruction.specs.declared.reading.Reading.{Reading}
-use Rattle.mrc_line.specs.declared.line.LineAnswer.{LineAnswer}
 use Rattle.mrc_line.specs.declared.page.Page.{Page}
 use Rattle.mrc_line.specs.Text.{Put}
 use Rattle.mrc_line.specs.Target.{offsets}
-use Rattle.mrc_line.specs.Line.{line_text, line_taken, longest, Listed}
+use Rattle.mrc_line.specs.Line.{line_text, line_taken, longest, a_line, Listed}
 
 module _ (x : Reading) where
   -- the lines from a position on, each by its position: one stands behind the bytes that the one before took. There are f of them at most; each takes a
@@ -69,4 +68,4 @@ pub record Paging (x : Reading) (s : List ℕ) (at : ℕ) (out₀ out : List ℕ
 -- Internal: the lines of a page for which there was room whatever they are; a buffer for one line has one
 pub record Roomy (x : Reading) (s : List ℕ) (at : ℕ) (out : List ℕ) (r : Page) (done : List ℕ) : Type 0 where
   pub paging : Paging x s at out done r.len r.next
-  pub one : at < length s → length out ≡ longest → Listed x s at out (LineAnswer.Line r.len (r.next - at)) done
+  pub one : at < length s → length out ≡ longest → Listed x s at out (a_line r.len (r.next - at)) done

@@ -9,7 +9,6 @@ pub mod page;
 mod printed;
 mod registers;
 mod roomy;
-mod signs;
 mod step;
 pub mod target;
 mod text;

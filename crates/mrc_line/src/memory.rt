@@ -1,32 +1,23 @@
 // The text of operands in memory: `WORD ES:[1234]`, `BYTE DS:[BX+SI-80]`.
 ghost use Rattle.std.specs.Prelude.{◌≡◌, ◌+◌, ◌≤◌, ◌++◌, length};
 ghost use Rattle.mrc_line.specs.Text.{Put, hex4, bytes};
-ghost use Rattle.mrc_line.specs.Operands.{size_text, segment_text, mode_text, displacement_text, zeros_text, offset_text, memory_text};
+ghost use Rattle.mrc_line.specs.Operands.{size_text, segment_text, mode_text, displacement_text, zeros_text, offset_text, memory_text, sign_of};
 
 use crate::registers::put_segment;
-use crate::signs::{magnitude, sign};
 use crate::text::{put_byte, put_bytes, put_hex2, put_hex4};
 use mrc_instruction::operand::{AddressingMode, Displacement, OperandSize};
 use mrc_instruction::reading::Reading;
 use mrc_instruction::register::Segment;
-
-fn size_name(size: OperandSize) -> [u8; 4]
-    ensures { result ++ bytes " " ≡ size_text size }
-{
-    match size {
-        OperandSize::Byte => *b"BYTE",
-        OperandSize::Word => *b"WORD",
-    }
-}
 
 // A size and its space.
 fn put_size(buf: &mut [u8], at: usize, size: OperandSize) -> usize
     requires { at + 5 ≤ length buf.old }
     ensures { Put 5 buf.old at (size_text size) buf.new result }
 {
-    let name = size_name(size);
-    let o = put_bytes(buf, at, &name);
-    put_byte(buf, o, b' ')
+    match size {
+        OperandSize::Byte => put_bytes(buf, at, b"BYTE "),
+        OperandSize::Word => put_bytes(buf, at, b"WORD "),
+    }
 }
 
 fn put_mode(buf: &mut [u8], at: usize, mode: AddressingMode) -> usize
@@ -45,6 +36,13 @@ fn put_mode(buf: &mut [u8], at: usize, mode: AddressingMode) -> usize
     }
 }
 
+// The sign that is printed.
+fn sign(d: i16) -> u8
+    ensures { result ≡ sign_of d }
+{
+    if d < 0 { b'-' } else { b'+' }
+}
+
 // A displacement within brackets: its sign, and its absolute value in hex digits.
 pub fn put_displacement(buf: &mut [u8], at: usize, displacement: Displacement) -> usize
     requires { at + 5 ≤ length buf.old }
@@ -53,13 +51,12 @@ pub fn put_displacement(buf: &mut [u8], at: usize, displacement: Displacement) -
     match displacement {
         Displacement::None => at,
         Displacement::Byte(d) => {
-            let wide = d as i16;
-            let o = put_byte(buf, at, sign(wide));
-            put_hex2(buf, o, magnitude(wide) as u8)
+            let o = put_byte(buf, at, sign(d as i16));
+            put_hex2(buf, o, d.unsigned_abs())
         }
         Displacement::Word(d) => {
             let o = put_byte(buf, at, sign(d));
-            put_hex4(buf, o, magnitude(d))
+            put_hex4(buf, o, d.unsigned_abs())
         }
     }
 }
@@ -79,7 +76,7 @@ fn put_zeros(buf: &mut [u8], at: usize, written: u8, reading: Reading) -> usize
     }
 }
 
-// A displacement within brackets, which was written in so many bytes.
+// A displacement within brackets, or the zero bytes written in its place.
 fn put_offset(
     buf: &mut [u8],
     at: usize,
@@ -92,8 +89,7 @@ fn put_offset(
 {
     match displacement {
         Displacement::None => put_zeros(buf, at, written, reading),
-        Displacement::Byte(_) => put_displacement(buf, at, displacement),
-        Displacement::Word(_) => put_displacement(buf, at, displacement),
+        _ => put_displacement(buf, at, displacement),
     }
 }
 

@@ -5,7 +5,7 @@ ghost use Rattle.mrc_line.specs.Printed.{alone, beside};
 ghost use Rattle.mrc_line.specs.Operands.{immediate_text, signed_text, printed_text, operand_text, operands_text};
 
 use crate::memory::{put_direct, put_displacement, put_indirect};
-use crate::printed::{Printed, alone};
+use crate::printed::{Origin, Printed, alone};
 use crate::registers::{put_register, put_segment};
 use crate::text::{put_byte, put_bytes, put_hex2, put_hex4};
 use mrc_instruction::address::Address;
@@ -42,8 +42,7 @@ fn put_signed(buf: &mut [u8], at: usize, displacement: Displacement) -> usize
 {
     match displacement {
         Displacement::None => put_bytes(buf, at, b"+00"),
-        Displacement::Byte(_) => put_displacement(buf, at, displacement),
-        Displacement::Word(_) => put_displacement(buf, at, displacement),
+        _ => put_displacement(buf, at, displacement),
     }
 }
 
@@ -76,7 +75,8 @@ fn put_operand(buf: &mut [u8], at: usize, written: u8, reading: Reading, operand
     }
 }
 
-// The same: a register, as most operands are, without a further call.
+// The same: a register, as most operands are, without a further call. (One function for both takes 17 instructions a line more.)
+#[inline(always)]
 fn put_beside(buf: &mut [u8], at: usize, written: u8, reading: Reading, operand: Operand) -> usize
     requires { at + 20 ≤ length buf.old }
     ensures { Put 20 buf.old at (operand_text reading written beside operand) buf.new result }
@@ -88,75 +88,43 @@ fn put_beside(buf: &mut [u8], at: usize, written: u8, reading: Reading, operand:
 }
 
 // A sole operand.
-fn put_sole(
-    buf: &mut [u8],
-    at: usize,
-    operation: Operation,
-    start: u16,
-    taken: u16,
-    written: u8,
-    reading: Reading,
-    sole: Operand,
-) -> usize
-    requires { at + 20 ≤ length buf.old }
-    ensures { Put 20 buf.old at (operand_text reading written (alone operation start taken) sole) buf.new result }
-{
-    match sole {
-        Operand::Displacement(displacement) => {
-            put_printed(buf, at, alone(operation, start, taken, displacement))
-        }
-        _ => put_operand(buf, at, written, reading, sole),
-    }
-}
-
-// The same: a register without a further call.
 fn put_alone(
     buf: &mut [u8],
     at: usize,
     operation: Operation,
-    start: u16,
-    taken: u16,
-    written: u8,
+    origin: Origin,
     reading: Reading,
     sole: Operand,
 ) -> usize
     requires { at + 20 ≤ length buf.old }
-    ensures { Put 20 buf.old at (operand_text reading written (alone operation start taken) sole) buf.new result }
+    ensures { Put 20 buf.old at (operand_text reading origin.written (alone operation origin.start origin.taken) sole) buf.new result }
 {
     match sole {
-        Operand::Register(register) => put_register(buf, at, register),
-        _ => put_sole(buf, at, operation, start, taken, written, reading, sole),
+        Operand::Displacement(displacement) => {
+            put_printed(buf, at, alone(operation, origin, displacement))
+        }
+        _ => put_beside(buf, at, origin.written, reading, sole),
     }
 }
 
-// A space and the operands, joined by a comma and a space, of an instruction that starts at `start` and takes `taken` bytes.
+// A space and the operands, joined by a comma and a space.
 pub fn put_operands(
     buf: &mut [u8],
     at: usize,
     operation: Operation,
-    start: u16,
-    taken: u16,
-    written: u8,
+    origin: Origin,
     reading: Reading,
     operands: OperandSet,
 ) -> usize
     requires { at + 43 ≤ length buf.old }
-    ensures { Put 43 buf.old at (operands_text reading written operation start taken operands) buf.new result }
+    ensures { Put 43 buf.old at (operands_text reading origin.written operation origin.start origin.taken operands) buf.new result }
 {
+    let written = origin.written;
     match operands {
         OperandSet::None => at,
         OperandSet::Destination(destination) => {
             let d = put_byte(buf, at, b' ');
-            put_alone(
-                buf,
-                d,
-                operation,
-                start,
-                taken,
-                written,
-                reading,
-                destination,
-            )
+            put_alone(buf, d, operation, origin, reading, destination)
         }
         OperandSet::DestinationAndSource(destination, source) => {
             let d = put_byte(buf, at, b' ');

@@ -1,7 +1,7 @@
 // A page: as many whole lines as fit into a buffer.
 ghost use Rattle.mrc_line.specs.Page.{Paged};
 
-use crate::line::{LineAnswer, OFFSETS};
+use crate::line::OFFSETS;
 use crate::roomy::roomy_lines;
 use crate::write::write_short;
 use mrc_instruction::reading::Reading;
@@ -14,24 +14,22 @@ pub struct Page {
 }
 
 // Writes as many whole lines as fit, from a position of the image on, as the reading has them.
+// (It and `roomy_lines` loop by position, since a line says where the next one starts. One loop over `line`, which refuses at the end, has a second call
+// of the step writer: 26 instructions a line more.)
 pub fn write_page(image: &[u8], at: usize, reading: Reading, out: &mut [u8]) -> Page
     ensures { Paged reading image.now at out.old result out.new }
 {
     if OFFSETS < image.len() {
         return Page { len: 0, next: at };
     }
-    let roomy = roomy_lines(out, image, at, reading);
-    let mut len = roomy.len;
-    let mut next = roomy.next;
+    let Page { mut len, mut next } = roomy_lines(out, image, at, reading);
     while next < image.len() {
         match write_short(&mut out[len..], image, next, reading) {
-            LineAnswer::Line { len: more, taken } => {
-                len += more;
-                next += taken;
+            Ok(line) => {
+                len += line.len;
+                next += line.taken;
             }
-            LineAnswer::Refused(_) => {
-                return Page { len, next };
-            }
+            Err(_) => break,
         }
     }
     Page { len, next }

@@ -1,6 +1,6 @@
 // What a displacement that is an operand prints as.
 ghost use Rattle.std.specs.Prelude.{◌≡◌};
-ghost use Rattle.mrc_line.specs.Printed.{is_return, stack_bytes, alone};
+ghost use Rattle.mrc_line.specs.Printed.{stack_bytes, alone};
 
 use crate::target::target;
 use mrc_instruction::operand::Displacement;
@@ -14,12 +14,13 @@ pub enum Printed {
     Signed(Displacement),
 }
 
-// Whether the operation is RET.
-fn is_return(operation: Operation) -> bool
-    ensures { result ≡ is_return operation }
-{
-    let ret = Operation::RET;
-    operation.number() == ret.number()
+// The bytes that an instruction was read from: the offset at which they start, how many they are, and how many of them are a displacement's.
+// (The reading goes beside them: as a field, a program's one reading is not known where a line is written, which takes five instructions a line more.)
+#[derive(Clone, Copy)]
+pub struct Origin {
+    pub start: u16,
+    pub taken: u16,
+    pub written: u8,
 }
 
 // The bytes of the stack that a return counts: the number itself, as a word.
@@ -33,15 +34,13 @@ fn stack_bytes(d: Displacement) -> u16
     }
 }
 
-// The sole operand of an instruction that starts at `start` and takes `taken` bytes: RET counts bytes of the stack, all else has a target.
-pub fn alone(operation: Operation, start: u16, taken: u16, d: Displacement) -> Printed
-    ensures { result ≡ alone operation start taken d }
+// The sole operand of an instruction: RET counts bytes of the stack, all else has a target.
+pub fn alone(operation: Operation, origin: Origin, d: Displacement) -> Printed
+    ensures { result ≡ alone operation origin.start origin.taken d }
 {
-    let bytes = stack_bytes(d);
-    let address = target(start, taken, d);
-    if is_return(operation) {
-        Printed::Word(bytes)
+    if matches!(operation, Operation::RET) {
+        Printed::Word(stack_bytes(d))
     } else {
-        Printed::Word(address)
+        Printed::Word(target(origin.start, origin.taken, d))
     }
 }

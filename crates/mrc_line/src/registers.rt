@@ -1,34 +1,26 @@
 // The names of registers and segments.
-ghost use Rattle.std.specs.Prelude.{◌≡◌, ◌+◌, ◌<◌, ◌≤◌, length};
+ghost use Rattle.std.specs.Prelude.{◌≡◌, ◌+◌, ◌≤◌, length};
 ghost use Rattle.mrc_line.specs.Text.{Put};
-ghost use Rattle.mrc_line.specs.Operands.{register_text, register_name_at, segment_text};
+ghost use Rattle.mrc_line.specs.Operands.{register_text, segment_text};
 
 use crate::text::put_bytes;
-use mrc_instruction::register::{Segment, SizedRegisterEncoding};
+use mrc_instruction::operand::OperandSize;
+use mrc_instruction::register::{RegisterEncoding, Segment, SizedRegisterEncoding};
 
-// The names by number: those of the bytes, and eight on those of the words.
-fn register_name(number: u8) -> [u8; 2]
-    requires { number < 16 }
-    ensures { result ≡ register_name_at number }
+// The names by size and field, those of the bytes first.
+const REGISTERS: &[[[u8; 2]; 8]; 2] = &[
+    [
+        *b"AL", *b"CL", *b"DL", *b"BL", *b"AH", *b"CH", *b"DH", *b"BH",
+    ],
+    [
+        *b"AX", *b"CX", *b"DX", *b"BX", *b"SP", *b"BP", *b"SI", *b"DI",
+    ],
+];
+
+fn register_name(encoding: RegisterEncoding, size: OperandSize) -> [u8; 2]
+    ensures { result ≡ register_text encoding size }
 {
-    match number {
-        0 => *b"AL",
-        1 => *b"CL",
-        2 => *b"DL",
-        3 => *b"BL",
-        4 => *b"AH",
-        5 => *b"CH",
-        6 => *b"DH",
-        7 => *b"BH",
-        8 => *b"AX",
-        9 => *b"CX",
-        10 => *b"DX",
-        11 => *b"BX",
-        12 => *b"SP",
-        13 => *b"BP",
-        14 => *b"SI",
-        _ => *b"DI",
-    }
+    REGISTERS[size as usize][encoding as usize]
 }
 
 fn segment_name(segment: Segment) -> [u8; 2]
@@ -47,9 +39,7 @@ pub fn put_register(buf: &mut [u8], at: usize, register: SizedRegisterEncoding) 
     requires { at + 2 ≤ length buf.old }
     ensures { Put 2 buf.old at (register_text register.0 register.1) buf.new result }
 {
-    let encoding = register.0;
-    let size = register.1;
-    let name = register_name(8 * u8::from(size) + u8::from(encoding));
+    let name = register_name(register.0, register.1);
     put_bytes(buf, at, &name)
 }
 

@@ -18,9 +18,9 @@ pub fn roomy_lines(out: &mut [u8], image: &[u8], at: usize, reading: Reading) ->
     }
     let last = out.len() - LONGEST;
     while next < image.len() && len <= last {
-        let w = write_step(&mut out[len..], image, next, reading);
-        len += w.end;
-        next += w.taken;
+        let line = write_step(&mut out[len..], image, next, reading);
+        len += line.len;
+        next += line.taken;
     }
     Page { len, next }
 }

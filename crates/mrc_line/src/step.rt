@@ -1,32 +1,26 @@
 // What a line of a step of a listing has before its LF: the offset, the bytes, and what they came to.
-ghost use Rattle.std.specs.Prelude.{◌≡◌, ◌+◌, ◌<◌, ◌≤◌, min, length};
+ghost use Rattle.std.specs.Prelude.{◌≡◌, ◌+◌, ◌<◌, ◌≤◌, length};
 ghost use Rattle.mrc_line.specs.Target.{offsets};
 ghost use Rattle.mrc_line.specs.Text.{Put};
 ghost use Rattle.mrc_line.specs.Line.{head_text, repeat_text, kept_text, reach_text, instruction_text, db_text, body_text, step_taken};
 
 use crate::names::put_name;
 use crate::operands::put_operands;
+use crate::printed::Origin;
 use crate::registers::put_segment;
-use crate::text::{SHOWN, put_bytes, put_field, put_hex2, put_spaces};
+use crate::text::{SHOWN, put_bytes, put_field, put_hex2, put_hex4, put_spaces};
 use mrc_instruction::instruction::{Instruction, Reach, Repeat};
 use mrc_instruction::register::Segment;
 use mrc_instruction::reading::Reading;
 use mrc_rules::Answer;
-
-fn least(a: usize, b: usize) -> usize
-    ensures { result ≡ min a b }
-{
-    if a < b { a } else { b }
-}
 
 // The offset, its high byte first, and the bytes taken.
 pub fn put_head(buf: &mut [u8], at: usize, start: u16, taken: &[u8]) -> usize
     requires { at + 29 ≤ length buf.old }
     ensures { Put 29 buf.old at (head_text start taken.now) buf.new result }
 {
-    let n = least(SHOWN, taken.len());
-    let a = put_hex2(buf, at, (start / 256) as u8);
-    let b = put_hex2(buf, a, (start % 256) as u8);
+    let n = SHOWN.min(taken.len());
+    let b = put_hex4(buf, at, start);
     let c = put_spaces(buf, b, 2);
     let d = put_field(buf, c, &taken[..n]);
     put_spaces(buf, d, 2)
@@ -61,9 +55,8 @@ fn put_reach(buf: &mut [u8], at: usize, reach: Reach) -> usize
     ensures { Put 4 buf.old at (reach_text reach) buf.new result }
 {
     match reach {
-        Reach::Neither => at,
-        Reach::Near => at,
         Reach::Far => put_bytes(buf, at, b" FAR"),
+        _ => at,
     }
 }
 
@@ -79,17 +72,18 @@ fn put_instruction(
     requires { at + 63 ≤ length buf.old }
     ensures { Put 63 buf.old at (instruction_text reading start taken instruction) buf.new result }
 {
-    let reach = instruction.reach;
-    let repeat = instruction.repeat;
-    let kept = instruction.kept;
     let operation = instruction.operation;
-    let operands = instruction.operands;
     let written = instruction.written;
-    let a = put_repeat(buf, at, repeat);
-    let b = put_kept(buf, a, kept);
+    let origin = Origin {
+        start,
+        taken,
+        written,
+    };
+    let a = put_repeat(buf, at, instruction.repeat);
+    let b = put_kept(buf, a, instruction.kept);
     let c = put_name(buf, b, operation);
-    let d = put_reach(buf, c, reach);
-    put_operands(buf, d, operation, start, taken, written, reading, operands)
+    let d = put_reach(buf, c, instruction.reach);
+    put_operands(buf, d, operation, origin, reading, instruction.operands)
 }
 
 // A byte that is not decoded.

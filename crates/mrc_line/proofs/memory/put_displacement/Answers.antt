@@ -10,9 +10,10 @@ use Rattle.mrc_line.proofs.memory.put_displacement.Goals as goal
 pub returns-in-Byte : goal.returns-in-Byte
 returns-in-Byte c =
     let d = c.in-Byte.d in
-    let e = wide w8 w16 tt d (search rules) in
+    let s : SFits w8 d = search rules in
+    let e = wide w8 w16 tt d s in
     gives (omega arith)
-    (ap (λ (x : ℕ). x ∷ hex2 c.magnitude.result) (c.sign.ensures ∙ ap sign_of e) ∙ ap (λ (x : ℕ). sign_of d ∷ hex2 x) (c.magnitude.ensures ∙ ap nat_abs e)
+    (ap (λ (x : ℕ). x ∷ hex2 c.unsigned_abs.result) (c.sign.ensures ∙ ap sign_of e) ∙ ap (λ (x : ℕ). sign_of d ∷ hex2 x) (c.unsigned_abs.ensures.value ∙ ap nat_abs (to_z-of_z s))
     ∙ sym (ap displacement_text c.in-Byte.is))
     (then c.put_byte-o.ensures c.put_hex2.ensures)
 
@@ -22,6 +23,6 @@ returns-in-Word c =
     let s : SFits w16 d = search rules in
     let e = to_z-of_z s in
     gives (omega arith)
-    (ap (λ (x : ℕ). x ∷ hex4 c.magnitude-in-Word.result) (c.sign-in-Word.ensures ∙ ap sign_of e)
-    ∙ ap (λ (x : ℕ). sign_of d ∷ hex4 x) (c.magnitude-in-Word.ensures ∙ ap nat_abs e) ∙ sym (ap displacement_text c.in-Word.is))
+    (ap (λ (x : ℕ). x ∷ hex4 c.unsigned_abs-in-Word.result) (c.sign-in-Word.ensures ∙ ap sign_of e)
+    ∙ ap (λ (x : ℕ). sign_of d ∷ hex4 x) (c.unsigned_abs-in-Word.ensures.value ∙ ap nat_abs e) ∙ sym (ap displacement_text c.in-Word.is))
     (then c.put_byte-o-in-Word.ensures c.put_hex4.ensures)

@@ -30,7 +30,7 @@ returns c =
     let d = c.decode_instruction-answer in
     let t = c.step_taken-taken in
     let n : at + t.result - at ≡ step_taken d.result = omega (arith, t.ensures) in
-    written x image at c.args.out.now c.requires.1 c.requires.2 c.put_byte-end.result c.put_byte-end.result t.result
+    written x image at c.args.out.now c.requires.1 c.requires.2 c.put_byte-len.result c.put_byte-len.result t.result
     (same (ap (λ (m : ℕ). head_text at (take m (drop at image)) ++ (body_text x at (get_or image at 0) d.result ++ line_end)) n ∙ text_is x image at d.ensures)
-    (then c.put_head-a.ensures (then c.put_body-b.ensures c.put_byte-end.ensures)))
+    (then c.put_head-a.ensures (then c.put_body-b.ensures c.put_byte-len.ensures)))
     (omega (arith, line_longest x image at, c.requires.0)) refl (t.ensures ∙ taken_is x image at d.ensures)
