@@ -7,7 +7,7 @@ use mrc_instruction::reading::Reading;
 use mrc_instruction::widths::WORDS;
 
 // A line's length, and the bytes that it accounts for.
-#[derive(Clone, Copy)]
+#[derive(Clone, Copy, Debug, PartialEq, Eq)]
 pub struct Written {
     pub len: usize,
     pub taken: usize,

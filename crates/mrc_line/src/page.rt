@@ -7,7 +7,7 @@ use crate::write::write_short;
 use mrc_instruction::reading::Reading;
 
 // How many bytes were written, and the position at which the next line starts.
-#[derive(Clone, Copy)]
+#[derive(Clone, Copy, Debug, PartialEq, Eq)]
 pub struct Page {
     pub len: usize,
     pub next: usize,

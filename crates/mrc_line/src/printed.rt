@@ -8,7 +8,7 @@ use mrc_instruction::operation::Operation;
 use mrc_instruction::signed::unsigned_word;
 
 // A word in four digits, or a sign and a magnitude.
-#[derive(Clone, Copy)]
+#[derive(Clone, Copy, Debug, PartialEq, Eq)]
 pub enum Printed {
     Word(u16),
     Signed(Displacement),
@@ -16,7 +16,7 @@ pub enum Printed {
 
 // The bytes that an instruction was read from: the offset at which they start, how many they are, and how many of them are a displacement's.
 // (The reading goes beside them: as a field, a program's one reading is not known where a line is written, which takes five instructions a line more.)
-#[derive(Clone, Copy)]
+#[derive(Clone, Copy, Debug, PartialEq, Eq)]
 pub struct Origin {
     pub start: u16,
     pub taken: u16,

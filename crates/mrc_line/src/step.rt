@@ -10,8 +10,8 @@ use crate::printed::Origin;
 use crate::registers::put_segment;
 use crate::text::{SHOWN, put_bytes, put_field, put_hex2, put_hex4, put_spaces};
 use mrc_instruction::instruction::{Instruction, Reach, Repeat};
-use mrc_instruction::register::Segment;
 use mrc_instruction::reading::Reading;
+use mrc_instruction::register::Segment;
 use mrc_rules::Answer;
 
 // The offset, its high byte first, and the bytes taken.
@@ -99,7 +99,11 @@ fn put_db(buf: &mut [u8], at: usize, byte: u8) -> usize
 pub fn step_taken(answer: Answer) -> usize
     ensures { result ≡ step_taken answer }
 {
-    if answer.result.is_ok() { answer.taken } else { 1 }
+    if answer.result.is_ok() {
+        answer.taken
+    } else {
+        1
+    }
 }
 
 // What stands behind the bytes: the instruction, or its first byte.
@@ -115,14 +119,10 @@ pub fn put_body(
     ensures { Put 63 buf.old at (body_text reading start byte answer) buf.new result }
 {
     match answer.result {
-        Ok(instruction) => put_instruction(
-            buf,
-            at,
-            start,
-            answer.taken as u16,
-            instruction,
-            reading,
-        ),
+        Ok(instruction) => {
+            let taken = answer.taken as u16;
+            put_instruction(buf, at, start, taken, instruction, reading)
+        }
         Err(_) => put_db(buf, at, byte),
     }
 }
