@@ -1,6 +1,6 @@
 -- Laws of `Put`: what one store puts, and that a piece after a piece is one piece.
 -- Assumes nothing.
-use Rattle.std.proofs.Common.{◌≡◌, ℕ, zero, suc, ◌+◌, ◌-◌, ◌*◌, ◌<◌, ◌≤◌, min, List, [], ◌∷◌, ◌++◌, length, take, drop, set, replicate, sym, refl, ap, ◌∙◌, subst, append_assoc, append-nil, add-one, arith, length-append, length-drop, length-set, take-append-drop, length-take-le, drop-drop, take-suc-set, take_at, drop-set-lt, take-add, drop_at}
+use Rattle.std.proofs.Common.{◌≡◌, ℕ, zero, suc, ◌+◌, ◌-◌, ◌*◌, ◌<◌, ◌≤◌, List, [], ◌∷◌, ◌++◌, length, take, drop, set, replicate, sym, refl, ap, ◌∙◌, subst, append_assoc, append-nil, add-one, arith, length-append, length-drop, length-set, take-append-drop, length-take-le, drop-drop, take-suc-set, take_at, drop-set-lt, take-add, drop_at}
 use lib.Seq.{drop-append-le}
 use Rattle.mrc_line.specs.Text.{Put, pairs, padded, hex2}
 

@@ -1,8 +1,8 @@
 -- A turn puts one byte more.
 -- Assumes nothing.
-use Rattle.std.proofs.Common.{◌≡◌, ℕ, ◌+◌, ◌∷◌, [], ◌++◌, get_or, take, refl, ap, ◌∙◌, add-one, arith, length-set, take-suc}
+use Rattle.std.proofs.Common.{◌≡◌, ◌+◌, ◌∷◌, [], ◌++◌, get_or, take, ◌∙◌, add-one, arith, length-set, take-suc}
 use lib.Seq.{take_all}
-use Rattle.mrc_line.proofs.Put.{then, one, none, within, same}
+use Rattle.mrc_line.proofs.Put.{then, one, within, same}
 use Rattle.mrc_line.proofs.text.put_bytes.Goals as goal
 
 pub loop-b-preserved : goal.loop-b-preserved

@@ -1,6 +1,6 @@
 -- A turn puts two digits over the blanks.
 -- Assumes nothing.
-use Rattle.std.proofs.Common.{◌≡◌, ℕ, ◌+◌, ◌*◌, List, ◌∷◌, [], ◌++◌, length, get_or, take, sym, refl, ap, ◌∙◌, add-one, arith, length-take-le, take-suc}
+use Rattle.std.proofs.Common.{◌≡◌, ℕ, ◌+◌, ◌*◌, List, ◌∷◌, [], ◌++◌, length, get_or, take, sym, ap, ◌∙◌, add-one, arith, length-take-le, take-suc}
 use lib.Seq.{take_all}
 use Rattle.mrc_line.specs.Text.{pairs, padded, field_width}
 use Rattle.mrc_line.proofs.Put.{inside, pair_more, pairs_length, same}
