@@ -23,14 +23,12 @@ pub fn decoded(operation: Operation, operands: OperandSet, end: usize) -> Taken<
 pub fn reaching(reach: Reach, read: Read<Instruction>) -> Read<Instruction>
     ensures { result ≡ reached_answer reach read }
 {
-    let form = read?;
-    Ok(form.with(form.value.reaching(reach)))
+    read.map(|form| form.with(form.value.reaching(reach)))
 }
 
 // The same answer, with the displacement bytes that its instruction was written with.
 pub fn writing(written: u8, read: Read<Instruction>) -> Read<Instruction>
     ensures { result ≡ wrote_answer written read }
 {
-    let form = read?;
-    Ok(form.with(form.value.writing(written)))
+    read.map(|form| form.with(form.value.writing(written)))
 }
