@@ -1,4 +1,4 @@
-// An operand in one machine word.
+// An operand in one machine word, as C reads it: kinds, registers and sizes are numbers there.
 ghost use Rattle.mrc_c.specs.Operands.{OperandHeld, fields_of, indirect_fields, immediate_fields, displacement_fields, operand_fields};
 
 use crate::words::{FROM_1, FROM_2, FROM_3, FROM_4, FROM_6};

@@ -1,4 +1,4 @@
-// The reading that a number names.
+// The reading that a number names: C has no other way to say it.
 ghost use Rattle.std.specs.Prelude.{◌≡◌};
 ghost use Rattle.mrc_c.specs.Readings.{reading_of};
 

@@ -1,4 +1,4 @@
-// The size of an operand for C and Rust, by the kind and the size of its fields.
+// The size of an operand for C and Rust, by the kind and the size of its fields, which are numbers in C's record.
 ghost use Rattle.std.specs.Prelude.{◌≡◌};
 ghost use Rattle.mrc_c.specs.Sizes.{own_size, size_number};
 

@@ -21,8 +21,8 @@ use Rattle.mrc_rules.specs.Forms.{Tail, Row, two, an_immediate, acc, acc_direct,
 pub direct_either : (opcode : ℕ) (t : Bool)
     → rest One opcode (cond t (direct_acc (size_by opcode)) (acc_direct (size_by opcode)))
     ≡ (a_word >>= λ w.
-      done
-      (cond t (two MOV (Operand.Direct Segment.DS (size_by opcode) w) (acc (size_by opcode))) (two MOV (acc (size_by opcode)) (Operand.Direct Segment.DS (size_by opcode) w))))
+    done
+    (cond t (two MOV (Operand.Direct Segment.DS (size_by opcode) w) (acc (size_by opcode))) (two MOV (acc (size_by opcode)) (Operand.Direct Segment.DS (size_by opcode) w))))
 direct_either opcode true = refl
 direct_either opcode false = refl
 

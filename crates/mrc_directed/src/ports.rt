@@ -1,4 +1,5 @@
-// IN and OUT: the accumulator and a port, which is an immediate or DX.
+// IN and OUT: the accumulator and a port, which is an immediate or DX. Each is written out with its destination before its source: one function for both
+// would take the order as a parameter, and be no plainer.
 ghost use Rattle.std.specs.Prelude.{◌≡◌, [], drop};
 ghost use Rattle.mrc_rules.specs.Forms.{in_dx, out_dx, in_port, out_port};
 ghost use Rattle.mrc_forms.specs.Answers.{read_by};

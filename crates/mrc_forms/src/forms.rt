@@ -1,4 +1,5 @@
-// The forms with no operand or one. Each takes the position behind the opcode, or behind its ModRM.
+// The forms with no operand or one. Each takes the position behind the opcode, or behind its ModRM. Those that read once are three lines each, a reader, a
+// case and an operation: one function over these three would be no plainer.
 ghost use Rattle.std.specs.Prelude.{◌≡◌, [], ◌/◌, ◌%◌, drop};
 ghost use Rattle.mrc_instruction.specs.Register.{register_of, segment_of};
 ghost use Rattle.mrc_rules.specs.Forms.{invalid as invalid_row, bare, on_segment, on_register, on_immediate, on_displacement, far as far_row, escape as escape_row, pop as pop_form};

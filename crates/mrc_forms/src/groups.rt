@@ -7,6 +7,8 @@ use mrc_instruction::instruction::Reach;
 use mrc_instruction::operand::OperandSize;
 use mrc_instruction::operation::Operation;
 
+// A group goes by its number and not by an enum's case: `immediate_operation`, `sole_operation`, `sole_reach` and the forms on a group promise an answer for
+// every number (docs/PROMISES.md), and an enum would ask more of their callers.
 // 80 to 83, by reg.
 pub const GROUP_80: u8 = 0x80;
 // C6 and C7: MOV, whatever reg is.

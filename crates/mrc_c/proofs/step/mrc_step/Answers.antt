@@ -12,8 +12,9 @@ returns c =
     let a = c.args in
     let d = c.decode_instruction-result.result in
     let its_number : c.from.result ≡ number d =
-        c.from.ensures
-        ∙ elim c.match-result.branch
-        [ in-Ok w ↦ w.number-is ∙ sym (ap number_in w.in-Ok.is)
-        | in-Err w ↦ w.number-is ∙ w.number-number.ensures ∙ sym (ap number_in w.in-Err.is) ] in
+    c.from.ensures
+    ∙ elim c.match-result.branch [
+      | in-Ok w ↦ w.number-is ∙ sym (ap number_in w.in-Ok.is)
+      | in-Err w ↦ w.number-is ∙ w.number-number.ensures ∙ sym (ap number_in w.in-Err.is)
+    ] in
     rw its_number (step_whole _ a.s.now a.at a.budget (search rules) d (in_reading a.s.now a.at a.budget c.decode_instruction-result.ensures c.reading_of.ensures))

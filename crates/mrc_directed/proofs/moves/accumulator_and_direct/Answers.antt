@@ -17,10 +17,11 @@ returns-in_err-offset c =
 
 pub returns : goal.returns
 returns c =
-    elim c.if-d_bit.branch
-    [ then-d_bit w ↦
-      rw (c.decoded.ensures, w.operands-is, ← c.from_low_bit-size.ensures, sym c.d_bit.ensures ∙ w.if-d_bit.true)
-      (form_one a_word c.args.s.now c.args.at (omega arith) (omega arith) c.read_u16.ensures _ c.in_ok-offset.ensures)
-    | else-d_bit w ↦
-      rw (c.decoded.ensures, w.operands-is, ← c.from_low_bit-size.ensures, sym c.d_bit.ensures ∙ w.if-d_bit.false)
-      (form_one a_word c.args.s.now c.args.at (omega arith) (omega arith) c.read_u16.ensures _ c.in_ok-offset.ensures) ]
+    elim c.if-d_bit.branch [
+      | then-d_bit w ↦
+          rw (c.decoded.ensures, w.operands-is, ← c.from_low_bit-size.ensures, sym c.d_bit.ensures ∙ w.if-d_bit.true)
+          (form_one a_word c.args.s.now c.args.at (omega arith) (omega arith) c.read_u16.ensures _ c.in_ok-offset.ensures)
+      | else-d_bit w ↦
+          rw (c.decoded.ensures, w.operands-is, ← c.from_low_bit-size.ensures, sym c.d_bit.ensures ∙ w.if-d_bit.false)
+          (form_one a_word c.args.s.now c.args.at (omega arith) (omega arith) c.read_u16.ensures _ c.in_ok-offset.ensures)
+    ]
