@@ -13,7 +13,6 @@ use Rattle.std.specs.Prelude.{Ok, Err, Option, Some, None, Result}
 use Rattle.mrc_instruction.specs.declared.errors.Refusal.{Refusal}
 use Rattle.mrc_instruction.specs.declared.reading.Reading.{Reading}
 use Rattle.mrc_instruction.specs.declared.instruction.OperandSet.{OperandSet}
-use Rattle.mrc_instruction.specs.declared.register.Segment.{Segment}
 use Rattle.mrc_instruction.specs.declared.instruction.Instruction.{Instruction}
 use Rattle.mrc_instruction.specs.Reader.{Bytes, Outcome, got, stopped, taken_by}
 use Rattle.mrc_rules.specs.Answer.{answer, decodes, refuses}

@@ -14,7 +14,6 @@ use Rattle.mrc_instruction.specs.declared.reading.Reading.{Reading}
 use Rattle.mrc_instruction.specs.declared.instruction.OperandSet.{OperandSet}
 use Rattle.mrc_instruction.specs.Values.{carrying}
 use Rattle.mrc_instruction.specs.Reader.{Bytes, Outcome, got, stopped, taken_by}
-use Rattle.mrc_rules.specs.declared.Answer.{Answer}
 use Rattle.mrc_rules.specs.Answer.{answer, refuses, values_of}
 use Rattle.mrc_rules.specs.Forms.{Tail}
 use Rattle.mrc_rules.specs.Prefixes.{is_override, is_repeat, run_of, tail_of, first, repeat_of, override_segment, keeping, keeps, under}

@@ -14,7 +14,6 @@ use lib.Seq.{length-take-le}
 use Rattle.std.specs.Prelude.{Some, None}
 use Rattle.mrc_instruction.specs.declared.errors.Refusal.{Refusal}
 use Rattle.mrc_instruction.specs.declared.reading.Reading.{Reading}
-use Rattle.mrc_instruction.specs.declared.register.Segment.{Segment}
 use Rattle.mrc_instruction.specs.Errors.{number_of, byte_of}
 use Rattle.mrc_instruction.specs.Reader.{Outcome, got, stopped, taken_by, more, read_from}
 use Rattle.mrc_instruction.proofs.Sequence.{taken_le}

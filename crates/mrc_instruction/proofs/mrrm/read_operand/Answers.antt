@@ -1,6 +1,6 @@
 -- By mod: what it calls for is read behind the byte, and is the operand.
 -- Assumes nothing.
-use Rattle.std.proofs.Common.{refl, ◌≡◌, ◌∙◌, ap, ◌/◌, ◌%◌, ◌≤◌, arith}
+use Rattle.std.proofs.Common.{refl, ◌∙◌, ◌/◌, ◌%◌, arith}
 use mir.ValLaws.{to_z-of_z}
 use mir.Syntax.{w8, w16}
 use borrow.Author.Tests.{ne_eqb}
