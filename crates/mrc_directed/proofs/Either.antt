@@ -1,21 +1,17 @@
 -- Of two rows or two forms that a test or a direction picks from: what is read whichever it is.
 -- Assumes nothing.
-use mathlib.Core.Path.{◌≡◌, refl, ap, ◌∙◌}
+use mathlib.Core.Path.{◌≡◌, refl}
 use mathlib.Core.Bool.{Bool, true, false, cond}
-use mathlib.Core.List.{List}
 use Prim.Native.Nat.{ℕ}
-use lib.ListN.{drop}
-use Rattle.mrc_instruction.specs.declared.errors.Refusal.{Refusal}
 use Rattle.mrc_instruction.specs.declared.reading.Reading.TheVariants.{One}
 use Rattle.mrc_instruction.specs.declared.operand.Operand.{Operand}
 use Rattle.mrc_instruction.specs.declared.operand.OperandSize.{OperandSize}
 use Rattle.mrc_instruction.specs.declared.operation.Operation.TheVariants.{MOV}
-use Rattle.mrc_instruction.specs.Reader.{Reader, done, ◌>>=◌, a_word}
+use Rattle.mrc_instruction.specs.Reader.{done, ◌>>=◌, a_word}
 use Rattle.mrc_instruction.specs.declared.register.Segment.{Segment}
 use Rattle.mrc_instruction.specs.Operand.{size_by}
 use Rattle.mrc_instruction.specs.Mrrm.{reg_field}
-use Rattle.mrc_instruction.proofs.Sequence.{stop_at}
-use Rattle.mrc_rules.specs.Forms.{Tail, Row, two, an_immediate, acc, acc_direct, direct_acc, arithmetic, group80, group_c6, behind, rest}
+use Rattle.mrc_rules.specs.Forms.{two, an_immediate, acc, acc_direct, direct_acc, arithmetic, group80, group_c6, behind, rest}
 
 -- A0 to A3 read a word, and only the order of the operands differs
 pub direct_either : (opcode : ℕ) (t : Bool)
