@@ -14,7 +14,6 @@ use Rattle.mrc_instruction.specs.declared.errors.Refusal.{Refusal}
 use Rattle.mrc_instruction.specs.declared.reading.Reading.{Reading}
 use Rattle.mrc_instruction.specs.declared.mrrm.RegisterOrMemory.{RegisterOrMemory}
 use Rattle.mrc_instruction.specs.Widths.{words, double_words}
-use Rattle.mrc_instruction.specs.Errors.{number_of}
 use Rattle.mrc_instruction.specs.Operand.{addressing_of}
 use Rattle.mrc_instruction.specs.Reader.{Outcome, got, stopped, taken_by, read_from, read_at, done, a_byte, a_word, ◌>>=◌}
 use Rattle.mrc_instruction.specs.Mrrm.{ModRM, a_register_or_memory, modrm, a_modrm}
@@ -59,9 +58,6 @@ module _ (x : Reading) (s : List ℕ) (at room : ℕ) where
   line_whole len taken e =
       let k = line_small (a_line len taken) e in
       rw (mod-eq_of_lt k.0, mod-eq_of_lt k.1) (omega (arith, ap (line_code x s at) e))
-
-  pub refusal_whole : (e : Refusal) → Err e ≡ answer_of x s at room → double_words * number_of e ≡ line_code x s at (answer_of x s at room)
-  refusal_whole e h = omega (arith, ap (line_code x s at) h)
 
   pub page_small : (length (text_of x s (page_of x s at room)) < double_words) × (taken_of x s (page_of x s at room) ≤ words)
   page_small =

@@ -8,7 +8,6 @@ use Rattle.std.specs.Prelude.{Option, Some, None, Result, Ok, Err}
 use Rattle.mrc_instruction.specs.declared.instruction.Instruction.{Instruction}
 use Rattle.mrc_instruction.specs.declared.errors.Refusal.{Refusal}
 use Rattle.mrc_instruction.specs.declared.reading.Reading.TheVariants.{One}
-use Rattle.mrc_instruction.specs.declared.register.Segment.{Segment}
 use Rattle.mrc_instruction.specs.Reader.{Bytes}
 use Rattle.mrc_rules.specs.Answer.{answer}
 use Rattle.mrc_rules.specs.Prefixes.{is_override, run_of, tail_of, first}

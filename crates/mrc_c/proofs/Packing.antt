@@ -5,8 +5,8 @@ use mathlib.Core.Path.{◌≡◌, refl}
 use mathlib.Core.List.{[], ◌∷◌}
 use native.Mathlib.Omega.{arith}
 use Rattle.mrc_c.specs.Words.{byte_at, word_at, Holds}
-use Rattle.mrc_c.specs.Operands.{Fields, fields_word, FieldsFit, OperandHeld, no_operand}
-use Rattle.mrc_c.specs.Record.{Head, head_word, HeadFits, HeadHeld, Body, body_word, BodyFits, BodyHeld, body_by, Record, Written}
+use Rattle.mrc_c.specs.Operands.{Fields, fields_word, FieldsFit, OperandHeld}
+use Rattle.mrc_c.specs.Record.{Head, head_word, HeadFits, HeadHeld, Body, body_word, BodyFits, BodyHeld, Record, Written}
 use Rattle.mrc_c.specs.Modrm.{ModrmHead, modrm_word, ModrmFits, ModrmHeld, Modrm, ModrmWritten}
 
 -- the word by whatever sum it was made
@@ -96,13 +96,6 @@ modrm_held h k = record { packed = refl; kept = rw (refusal, byte, taken, regist
 
     reserved : word_at 6 (modrm_word h) ≡ h.reserved
     reserved = omega arith
-
--- a word of 0 holds what is absent
-pub no_operand_lem : OperandHeld no_operand 0
-no_operand_lem = record { packed = refl; kept = refl }
-
-pub no_body : BodyHeld (body_by 0 0 0 0 0 0) 0
-no_body = record { packed = refl; kept = refl }
 
 -- words that hold the parts of a record are those of the record
 pub written :

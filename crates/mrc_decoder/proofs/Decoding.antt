@@ -1,26 +1,22 @@
 -- A decode at a position, one byte at a time: what the proof of the code cites.
 -- Assumes nothing.
 use mathlib.Core.Path.{◌≡◌, refl, sym, ◌∙◌, ap, ap₂, subst}
-use mathlib.Core.Logic.{⊎_elim}
 use mathlib.Core.Bool.{Bool, true, false, cond, ◌||◌}
 use mathlib.Core.List.{List, [], ◌∷◌}
 use Prim.Native.Nat.{ℕ, suc, ◌+◌, ◌-◌, ◌^◌, ◌≤◌, ◌<◌}
-use native.Mathlib.Nat.{eq-or-lt_of_le}
 use native.Mathlib.Omega.{arith}
 use lib.ListN.{length, get_or, drop, length-drop}
-use borrow.Author.Tests.{le-leb, lt-leb, eq-eqb, ne_eqb}
+use borrow.Author.Tests.{le-leb}
 use Rattle.std.specs.Prelude.{Some}
-use Rattle.mrc_instruction.specs.declared.errors.Refusal.{Refusal}
 use Rattle.mrc_instruction.specs.declared.reading.Reading.{Reading}
 use Rattle.mrc_instruction.specs.declared.instruction.Reach.TheVariants.{Neither, Near, Far}
 use Rattle.mrc_rules.specs.declared.Answer.{Answer}
 use Rattle.mrc_decoder.specs.declared.form.OpcodeAlone.{OpcodeAlone}
 use Rattle.mrc_decoder.specs.Form.{Meaning, overrides, repeats, reads, meaning_of, alone_row}
 use Rattle.mrc_instruction.specs.Reader.{Outcome, got, stopped, read_from}
-use Rattle.mrc_instruction.proofs.Rest.{here, none}
+use Rattle.mrc_instruction.proofs.Rest.{here}
 use Rattle.mrc_instruction.specs.declared.instruction.Instruction.{Instruction}
 use Rattle.mrc_instruction.specs.Read.{Read}
-use Rattle.mrc_rules.specs.Answer.{refuses}
 use Rattle.mrc_instruction.specs.Operand.{size_by}
 use Rattle.mrc_rules.specs.Forms.{Tail, Row, acc_direct, direct_acc, rest}
 use Rattle.mrc_rules.specs.Table.{row_of}
@@ -29,9 +25,9 @@ use Rattle.mrc_rules.specs.Decode.{decode_by, decode_at, rules}
 use Rattle.mrc_forms.specs.Answers.{form_read, read_by, read_in}
 use Rattle.mrc_forms.specs.Traits.{d_bit}
 use Rattle.mrc_directed.specs.Moves.{accumulator_and_direct}
-use Rattle.mrc_decoder.specs.Prefixes.{Small, under_override, with_repeat, behind_prefix, too_many, past_end}
+use Rattle.mrc_decoder.specs.Prefixes.{Small, under_override, with_repeat, behind_prefix}
 use Rattle.mrc_decoder.specs.Decode.{after_opcode, end_of, answer_from}
-use Rattle.mrc_decoder.proofs.Steps.{step_end, step_tail, step_over, override_prefix, repeat_prefix}
+use Rattle.mrc_decoder.proofs.Steps.{step_tail}
 use Rattle.mrc_decoder.proofs.Wrapping.{override_wraps, repeat_wraps, below, above}
 use Rattle.mrc_rules.proofs.Counting.{taken_there, prefixes_there}
 
@@ -55,12 +51,6 @@ says x b m e = subst (Says x b) (sym e) (meaning_says x b)
 -- within the input, a decode is that of the list from the position on
 pub inside : (x : Reading) (s : List ℕ) (at n : ℕ) → at ≤ length s → decode_at x s at n ≡ decode_by (rules x) n (drop at s)
 inside x s at n h = rw (le-leb at (length s) h)
-
-pub outside : (x : Reading) (s : List ℕ) (at n : ℕ) → length s < at → refuses Refusal.OutsideInput 0 0 ≡ decode_at x s at n
-outside x s at n h = rw (lt-leb at (length s) h)
-
-pub at_end : (x : Reading) (s : List ℕ) (at n : ℕ) → length s ≡ at → refuses Refusal.EndOfInput 0 0 ≡ decode_at x s at n
-at_end x s at n h = sym (inside x s at n (omega arith) ∙ ap (decode_by (rules x) n) (none s at (omega arith)) ∙ step_end (rules x) n)
 
 -- a form that is its opcode alone reads nothing, wherever that stands
 pub alone_anywhere : (x : Reading) (form : OpcodeAlone) (byte at : ℕ) (l : List ℕ) → read_by byte (alone_row form byte) at [] ≡ read_in x byte (alone_row form byte) at l
@@ -95,13 +85,6 @@ ended_at : (at : ℕ) (o : Outcome Tail) → at ≤ end_of (form_read (at + 1) o
 ended_at at (got i n) = omega arith
 ended_at at (stopped e n) = omega arith
 
-pub past_end_lem : (x : Reading) (s : List ℕ) (at n : ℕ) → length s ≤ at → past_end (length s) at ≡ decode_at x s at n
-past_end_lem x s at n h =
-    ⊎_elim
-    (λ e. rw (eq-eqb (length s) at e) (at_end x s at n e))
-    (λ l. let differs : (length s ≡ at → ⊥) = λ e. omega (arith, e) in rw (ne_eqb (length s) at differs) (outside x s at n l))
-    (eq-or-lt_of_le h)
-
 module _ (x : Reading) (s : List ℕ) (at n : ℕ) (h : at < length s) where
   start : decode_at x s at n ≡ decode_by (rules x) n (get_or s at 0 ∷ drop (at + 1) s)
   start = inside x s at n (omega arith) ∙ ap (decode_by (rules x) n) (here s at h)
@@ -119,16 +102,6 @@ module _ (x : Reading) (s : List ℕ) (at n : ℕ) (h : at < length s) where
       ∙ answered_at at (read_from (rest x (get_or s at 0) row) (drop (at + 1) s))
       ∙ ap (λ (y : Row). after_opcode (read_from (rest x (get_or s at 0) y) (drop (at + 1) s))) said.1
       ∙ sym (start ∙ step_tail (rules x) n (get_or s at 0) (drop (at + 1) s) said.0)
-
-  over : is_prefix (get_or s at 0) ≡ true → n ≡ 0 → too_many (get_or s at 0) ≡ decode_at x s at n
-  over e z =
-      sym (start ∙ ap (λ (k : ℕ). decode_by (rules x) k (get_or s at 0 ∷ drop (at + 1) s)) z ∙ step_over (rules x) (get_or s at 0) (drop (at + 1) s) e)
-
-  pub override_over : overrides ≡ meaning_of x (get_or s at 0) → n ≡ 0 → too_many (get_or s at 0) ≡ decode_at x s at n
-  override_over e z = over (override_prefix (get_or s at 0) (says x (get_or s at 0) overrides e)) z
-
-  pub repeat_over : repeats ≡ meaning_of x (get_or s at 0) → n ≡ 0 → too_many (get_or s at 0) ≡ decode_at x s at n
-  repeat_over e z = over (repeat_prefix (get_or s at 0) (says x (get_or s at 0) repeats e)) z
 
   -- the budget is not 0, so it is one more than the inner one
   lower : (n ≡ 0 → ⊥) → decode_at x s at n ≡ decode_by (rules x) (suc (n - 1)) (get_or s at 0 ∷ drop (at + 1) s)

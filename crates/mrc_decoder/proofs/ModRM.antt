@@ -2,30 +2,25 @@
 -- that the ModRM was written with.
 -- Assumes nothing.
 use mathlib.Core.Path.{◌≡◌, refl, sym, ◌∙◌, ap, ap₂}
-use mathlib.Core.Bool.{Bool, true, false, cond}
-use mathlib.Core.List.{List, []}
+use mathlib.Core.List.{List}
 use Prim.Native.Nat.{ℕ, ◌+◌}
 use native.Mathlib.Nat.{add-zero}
 use native.Mathlib.Omega.{arith}
-use lib.Dec.{eqb, ltb}
 use lib.ListN.{drop}
 use Rattle.std.specs.Prelude.{Ok, Err}
-use Rattle.mrc_instruction.specs.declared.errors.Refusal.{Refusal}
 use Rattle.mrc_instruction.specs.declared.reading.Reading.{Reading}
 use Rattle.mrc_instruction.specs.declared.operand.OperandSize.{OperandSize}
-use Rattle.mrc_instruction.specs.declared.operand.OperandSize.TheVariants.{Word}
-use Rattle.mrc_instruction.specs.declared.operand.Operand.{Operand}
 use Rattle.mrc_instruction.specs.declared.mrrm.NamedOperand.{NamedOperand}
 use Rattle.mrc_instruction.specs.declared.instruction.Instruction.{Instruction}
 use Rattle.mrc_instruction.specs.declared.read.Taken.{Taken}
 use Rattle.mrc_instruction.specs.declared.read.Stop.{Stop}
 use Rattle.mrc_instruction.specs.Instruction.{wrote}
-use Rattle.mrc_instruction.specs.Reader.{Reader, done, refuse, ◌>>=◌, Outcome, got, stopped, after, read_from}
-use Rattle.mrc_instruction.specs.Mrrm.{ModRM, reg_field, a_modrm, written_in}
+use Rattle.mrc_instruction.specs.Reader.{Reader, done, ◌>>=◌, Outcome, got, stopped, after, read_from}
+use Rattle.mrc_instruction.specs.Mrrm.{ModRM, a_modrm, written_in}
 use Rattle.mrc_instruction.specs.Read.{Read, taking, stopping, named_by, operand_read}
 use Rattle.mrc_instruction.proofs.Sequence.{through, then, then_at, stop_at}
-use Rattle.mrc_rules.specs.Forms.{Tail, ModRMForm, rm_segment, segment_rm, pop, group80, group_c6, group_fe, escape_rm, with_modrm, behind, rm}
-use Rattle.mrc_forms.specs.Answers.{form_read, read_behind, read_behind_in, wrote_answer}
+use Rattle.mrc_rules.specs.Forms.{Tail, ModRMForm, with_modrm, behind, rm}
+use Rattle.mrc_forms.specs.Answers.{form_read, wrote_answer}
 
 -- n bytes more before the position
 form_after : (at n : ℕ) (o : Outcome Tail) → form_read (at + n) o ≡ form_read at (after n o)
@@ -79,31 +74,3 @@ module _ (x : Reading) (form : ModRMForm) (size : OperandSize) (s : List ℕ) (a
       go (stopped y n) q h =
           let its : e ≡ stopping y (at + n) = cc in
           ap Err its ∙ ap (form_read at) (stop_at a_modrm written_by_lem s at q)
-
--- where nothing is read behind the ModRM, what stands there does not matter
-tested : (t : Bool) (i : Tail) (e : Refusal) (at : ℕ) (l : List ℕ)
-    → form_read at (read_from (cond t (done i) (refuse e)) []) ≡ form_read at (read_from (cond t (done i) (refuse e)) l)
-tested true i e at l = refl
-tested false i e at l = refl
-
-module _ (x : Reading) (size : OperandSize) (operand : Operand) (byte at : ℕ) (l : List ℕ) where
-  -- a form that both readings read alike reads the same from no bytes and from those that stand there
-  abbrev Anywhere : ModRMForm → Type 0
-  Anywhere form = read_behind form size operand byte at [] ≡ read_behind_in x form size operand byte at l
-
-  pub pop_anywhere : Anywhere pop
-  pop_anywhere = tested (eqb (reg_field byte) 0) _ _ at l
-
-  pub sole_anywhere : (t : Bool) → Anywhere (cond t group_fe escape_rm)
-  sole_anywhere true = refl
-  sole_anywhere false = refl
-
-  -- whatever the size, which the operand has already
-  pub segment_anywhere : (t : Bool) → read_behind (cond t segment_rm rm_segment) Word operand byte at [] ≡ read_behind_in x (cond t segment_rm rm_segment) size operand byte at l
-  segment_anywhere true = tested (ltb (reg_field byte) 4) _ _ at l
-  segment_anywhere false = tested (ltb (reg_field byte) 4) _ _ at l
-
-  -- an immediate is read alike
-  pub immediate_alike : (t : Bool) → read_behind (cond t group80 group_c6) size operand byte at l ≡ read_behind_in x (cond t group80 group_c6) size operand byte at l
-  immediate_alike true = refl
-  immediate_alike false = refl

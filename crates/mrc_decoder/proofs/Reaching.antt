@@ -12,7 +12,7 @@ use Rattle.mrc_instruction.specs.declared.instruction.Reach.TheVariants.{Neither
 use Rattle.mrc_instruction.specs.declared.operation.Operation.{Operation}
 use Rattle.mrc_instruction.specs.Instruction.{plain, reached}
 use Rattle.mrc_instruction.specs.Reader.{Reader, done, refuse, next, ◌>>=◌, Outcome, got, stopped, more, read_from}
-use Rattle.mrc_rules.specs.Forms.{Tail, Row, rest, reaching, bare, on_immediate, on_displacement, an_immediate, a_displacement}
+use Rattle.mrc_rules.specs.Forms.{Tail, Row, rest, reaching, on_immediate, on_displacement, an_immediate, a_displacement}
 use Rattle.mrc_forms.specs.Answers.{form_read, read_in, reached_answer}
 use Rattle.mrc_decoder.specs.Form.{with_reach}
 
@@ -64,7 +64,3 @@ module _ (x : Reading) (op : Operation) (size : OperandSize) (opcode at : ℕ) (
   pub displacement_reached : (reach : Reach)
       → reached_answer reach (read_in x opcode (on_displacement op size) at l) ≡ read_in x opcode (with_reach reach (on_displacement op size)) at l
   displacement_reached = by_reach x opcode (on_displacement op size) at l (plain_reached (a_displacement size) op _ l)
-
-pub bare_reached : (x : Reading) (op : Operation) (opcode at : ℕ) (l : List ℕ) (reach : Reach)
-    → reached_answer reach (read_in x opcode (bare op) at l) ≡ read_in x opcode (with_reach reach (bare op)) at l
-bare_reached x op opcode at l = by_reach x opcode (bare op) at l refl

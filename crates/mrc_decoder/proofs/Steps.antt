@@ -8,7 +8,7 @@ use Prim.Native.Nat.{ℕ, suc, ◌+◌}
 use native.Mathlib.Nat.{zero-add}
 use native.Mathlib.Omega.{arith}
 use lib.ListN.{length, get_or}
-use lib.Dec.{leb, leb-suc-suc, leb-zero, leb-suc-zero}
+use lib.Dec.{leb, leb-suc-suc, leb-zero}
 use Rattle.std.specs.Prelude.{Result, Err, Option, Some, None}
 use Rattle.mrc_instruction.specs.declared.instruction.Repeat.{Repeat}
 use Rattle.mrc_instruction.specs.declared.instruction.Instruction.{Instruction}
@@ -19,7 +19,7 @@ use Rattle.mrc_rules.specs.Prefixes.{is_override, is_repeat, is_prefix, run_of, 
 use Rattle.mrc_rules.specs.Answer.{answer, refuses}
 use Rattle.mrc_rules.specs.Decode.{Rules, tail, result_of, together, decode_by}
 use Rattle.mrc_decoder.specs.Decode.{alone}
-use Rattle.mrc_decoder.specs.Prefixes.{refusal_under, result_under, result_repeated, wrapped, under_override_by, with_repeat, too_many}
+use Rattle.mrc_decoder.specs.Prefixes.{refusal_under, result_under, result_repeated, wrapped, under_override_by, with_repeat}
 use Rattle.mrc_rules.proofs.Striking.{override_no_repeat, repeat_no_override}
 
 -- a refusal that an override turns into its own: every one but TooManyPrefixes
@@ -62,15 +62,8 @@ module _ (R : Rules) where
   alone_is (got i n) = refl
   alone_is (stopped e n) = refl
 
-  pub step_end : (b : ℕ) → decode_by R b [] ≡ alone (tail R [])
-  step_end b = simp (leb-zero b, zero-add) (alone_is (tail R []))
-
   pub step_tail : (b op : ℕ) (l : List ℕ) → is_prefix op ≡ false → decode_by R b (op ∷ l) ≡ alone (tail R (op ∷ l))
   step_tail b op l e = simp (e, leb-zero b, zero-add) (alone_is (tail R (op ∷ l)))
-
-  -- a prefix over the budget
-  pub step_over : (op : ℕ) (l : List ℕ) → is_prefix op ≡ true → decode_by R 0 (op ∷ l) ≡ too_many op
-  step_over op l e = simp (e, leb-suc-zero (length (run_of l)))
 
 module _ (R : Rules) (W : Wraps R) where
   -- one more override before a run, one more repeat

@@ -3,10 +3,9 @@
 use mathlib.Core.Path.{◌≡◌}
 use Prim.Native.Nat.{ℕ, zero, suc, ◌-◌, ◌≤◌}
 use native.Mathlib.Omega.{arith}
-use Rattle.mrc_instruction.specs.declared.errors.Refusal.{Refusal}
 use Rattle.mrc_instruction.specs.declared.operand.Operand.{Operand}
 use Rattle.mrc_instruction.specs.declared.operand.OperandSize.{OperandSize}
-use Rattle.mrc_instruction.specs.Reader.{done, refuse, ◌>>=◌}
+use Rattle.mrc_instruction.specs.Reader.{done, ◌>>=◌}
 use Rattle.mrc_instruction.specs.declared.operation.Operation.{Operation}
 use Rattle.mrc_rules.specs.Forms.{an_immediate, one, two, group_f6_by, group_f6_operation}
 
@@ -20,6 +19,3 @@ group_f6_other (suc (suc n)) d size h =
 pub group_f6_test : (k : ℕ) (d : Operand) (size : OperandSize) → k ≡ 0
     → group_f6_by k d size ≡ (an_immediate size >>= λ i. done (two Operation.TEST d (Operand.Immediate i)))
 group_f6_test k d size e = rw e
-
-pub group_f6_refused : (k : ℕ) (d : Operand) (size : OperandSize) → k ≡ 1 → group_f6_by k d size ≡ refuse (Refusal.InvalidOpCode 1)
-group_f6_refused k d size e = rw e
