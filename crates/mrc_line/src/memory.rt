@@ -36,7 +36,7 @@ fn put_mode(buf: &mut [u8], at: usize, mode: AddressingMode) -> usize
     }
 }
 
-// The sign that is printed.
+// The sign that is printed, which the library has in no method.
 fn sign(d: i16) -> u8
     ensures { result ≡ sign_of d }
 {
