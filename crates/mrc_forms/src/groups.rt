@@ -1,4 +1,4 @@
-// The operations of a group, and how far they go, by reg.
+// The operations of a group, and how far they go, by reg: a table for each, which one function over all groups would only hold as well.
 ghost use Rattle.std.specs.Prelude.{◌≡◌};
 ghost use Rattle.mrc_rules.specs.Forms.{arithmetic, shift, group_fe_operation, group_fe_reach, group_f6_operation};
 ghost use Rattle.mrc_forms.specs.Groups.{immediate_operation, sole_operation, sole_reach};

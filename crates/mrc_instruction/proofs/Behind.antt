@@ -3,7 +3,6 @@
 use mathlib.Core.Path.{◌≡◌, refl, ap, sym, ◌∙◌}
 use mathlib.Core.List.{List}
 use Prim.Native.Nat.{ℕ, ◌+◌, ◌-◌, ◌<◌, ◌^◌}
-use native.Mathlib.Nat.{add-zero}
 use native.Mathlib.Omega.{arith}
 use lib.ListN.{length, drop}
 use Rattle.std.specs.Prelude.{Ok, Err}
@@ -96,26 +95,3 @@ module _ {A C D : Type 0} (h : C → D) (m : Reader A) (s : List ℕ) (at : ℕ)
         let p = read_from (k t.value) (drop t.taken s) in
         made_out h (g t.value) x
         ∙ behind_is (counted_is t.taken p d w (omega (arith, there, took m s at {o = read_from m (drop at s)} refl, took (k t.value) s t.taken {o = p} refl)))
-
-    -- where the other is a reader p and then done
-    module _ {E : Type 0} (p : Reader E) (j : E → B) (same : k t.value ≡ (p >>= λ b. done (j b))) where
-      pub made_behind : {q x : Read E} → q ≡ told (read_from p (drop t.taken s)) → x ≡ counted_from t.taken q
-          → made_of (λ b. h (g t.value (j b))) x ≡ told (mapped h (after at (read_from Rest (drop at s))))
-      made_behind {x = x} w d =
-          let o = read_from p (drop t.taken s) in
-          made_out h (λ b. g t.value (j b)) x
-          ∙ ap (λ y. told (mapped h y)) (mapped_twice (out x))
-          ∙ behind_is
-          (ap (mapped j) (counted_is t.taken o d w (omega (arith, there, took m s at {o = read_from m (drop at s)} refl, took p s t.taken {o = o} refl)))
-          ∙ mapped_after j t.taken o
-          ∙ ap (after t.taken) (one_done p j s t.taken refl ∙ ap (λ y. read_from y (drop t.taken s)) (sym same)))
-        where
-          mapped_twice : (o : Outcome E) → mapped (λ b. g t.value (j b)) o ≡ mapped (g t.value) (mapped j o)
-          mapped_twice (got b i) = refl
-          mapped_twice (stopped y i) = refl
-
-    -- where nothing more is read
-    pub nothing_behind : {b : B} → k t.value ≡ done b → Ok (taking (h (g t.value b)) t.taken) ≡ told (mapped h (after at (read_from Rest (drop at s))))
-    nothing_behind {b} same =
-        ap (λ i. Ok (taking (h (g t.value b)) i)) (sym (add-zero t.taken))
-        ∙ behind_is {q = got b (t.taken + 0)} (ap (λ y. after t.taken (read_from y (drop t.taken s))) (sym same))
