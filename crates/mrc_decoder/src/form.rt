@@ -12,8 +12,9 @@ use mrc_instruction::operation::Operation;
 use mrc_instruction::reading::Reading;
 
 // What a first byte is: a prefix, or an opcode whose form has the name of its function, with what the opcode says of it. The forms with a ModRM
-// share its reader, and the rarer ones that read nothing stand together. The forms are cases and not functions as values: that an opcode is told by single
-// values and ranges is one of the forms by place (docs/PROMISES.md).
+// share its reader, and the rarer ones that read nothing stand together. The forms are cases and not functions as values, since `form_of` hands them
+// out, which the gate refuses of function pointers and closures; that an opcode is told by single values and ranges is one of the forms by place
+// (docs/PROMISES.md). A group is the number that the forms on a group take (mrc_forms/src/groups.rt).
 #[derive(Clone, Copy, Debug, PartialEq, Eq)]
 pub enum Form {
     Override,

@@ -117,18 +117,14 @@ fn with_repeat(prefix: u8, inner: Answer) -> Answer
     ensures { result ≡ with_repeat (repeat_of (Some prefix)) inner }
 {
     let repeat = Some(repeat_of(prefix));
-    let result = match inner.result {
-        Ok(instruction) => Ok(instruction.repeated(repeat)),
-        Err(refusal) => Err(refusal),
-    };
     Answer {
-        result,
+        result: inner.result.map(|instruction| instruction.repeated(repeat)),
         taken: inner.taken + 1,
         prefixes: inner.prefixes + 1,
     }
 }
 
-// The inner answer behind a prefix of either kind. It stays a call: what it keeps of the inner answer costs a step that has no prefix nothing.
+// The inner answer behind a prefix of either kind, told by its byte, which the refusals carry: a case beside the byte would say it twice. It stays a call: what it keeps of the inner answer costs a step that has no prefix nothing.
 #[inline(never)]
 pub fn behind_prefix(prefix: u8, inner: Answer, reading: Reading) -> Answer
     requires { Small inner }

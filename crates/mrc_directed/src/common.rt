@@ -51,17 +51,14 @@ pub fn register_or_memory_and_segment(
 ) -> Read<Instruction>
     ensures { result ≡ read_behind (register_or_memory_and_segment direction) OperandSize.Word reg_mem.operand reg_mem.byte at [] }
 {
-    match Segment::try_from(reg_field(reg_mem.byte)) {
-        Ok(segment) => {
-            let seg = Operand::Segment(segment);
-            let operands = match direction {
-                Direction::RegFirst => OperandSet::DestinationAndSource(seg, reg_mem.operand),
-                Direction::RegMemFirst => OperandSet::DestinationAndSource(reg_mem.operand, seg),
-            };
-            Ok(decoded(Operation::MOV, operands, at))
-        }
-        Err(refusal) => Err(Stop { refusal, taken: at }),
-    }
+    let named = Segment::try_from(reg_field(reg_mem.byte));
+    let segment = named.map_err(|refusal| Stop { refusal, taken: at })?;
+    let seg = Operand::Segment(segment);
+    let operands = match direction {
+        Direction::RegFirst => OperandSet::DestinationAndSource(seg, reg_mem.operand),
+        Direction::RegMemFirst => OperandSet::DestinationAndSource(reg_mem.operand, seg),
+    };
+    Ok(decoded(Operation::MOV, operands, at))
 }
 
 // x x x x x x x w | mod reg r/m | data | data if w = 1

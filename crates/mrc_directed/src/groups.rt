@@ -15,7 +15,7 @@ use mrc_instruction::operation::Operation;
 use mrc_instruction::read::{Read, Stop, counted_from, read_u8};
 use mrc_instruction::reading::Reading;
 
-// The word of a byte: widened with zeros, and in reading 2 by its sign.
+// The word of a byte: widened with zeros, and in reading 2 by its sign. (The sum is the rule's own; through an i8 and an i16 it is no plainer.)
 fn widened(byte: u8, reading: Reading) -> u16
     ensures { result ≡ widened_in reading byte }
 {

@@ -1,7 +1,7 @@
 -- Internal: what the forms owe the decoder.
 -- What a form's function answers: what its row reads from the position behind the opcode on, or, where the form has a ModRM, what is read behind
 -- that. It counts its bytes from the front of the slice: they end at the position that it says to have taken.
-use Rattle.std.specs.Prelude.{ℕ, ◌-◌, List, Ok, Err, None}
+use Rattle.std.specs.Prelude.{ℕ, ◌-◌, List, Result, Ok, Err, None}
 use Rattle.mrc_instruction.specs.declared.reading.Reading.{Reading}
 use Rattle.mrc_instruction.specs.declared.reading.Reading.TheVariants.{One}
 use Rattle.mrc_instruction.specs.declared.operand.Operand.{Operand}
@@ -12,6 +12,9 @@ use Rattle.mrc_instruction.specs.Instruction.{reached, wrote}
 use Rattle.mrc_instruction.specs.Reader.{Outcome, mapped, after, read_from}
 use Rattle.mrc_instruction.specs.Values.{Values, carrying, refused_with}
 use Rattle.mrc_instruction.specs.Read.{Read, told, taking}
+use Rattle.mrc_instruction.specs.declared.errors.Refusal.{Refusal}
+use Rattle.mrc_rules.specs.declared.Answer.{Answer}
+use Rattle.mrc_rules.specs.Answer.{answer}
 use Rattle.mrc_rules.specs.Forms.{Tail, Row, ModRMForm, rest, behind}
 use Rattle.mrc_rules.specs.Prefixes.{made}
 
@@ -47,6 +50,21 @@ reached_answer reach (Err e) = Err e
 abbrev pub wrote_answer : ℕ → Read Instruction → Read Instruction
 wrote_answer written (Ok t) = Ok (taking (wrote written t.value) t.taken)
 wrote_answer written (Err e) = Err e
+
+abbrev pub reached_result : Reach → Result Instruction Refusal → Result Instruction Refusal
+reached_result reach (Ok i) = Ok (reached reach i)
+reached_result reach (Err e) = Err e
+
+abbrev pub wrote_result : ℕ → Result Instruction Refusal → Result Instruction Refusal
+wrote_result written (Ok i) = Ok (wrote written i)
+wrote_result written (Err e) = Err e
+
+-- the two of a whole answer, its counts as they are
+abbrev pub reached_whole : Reach → Answer → Answer
+reached_whole reach a = answer (reached_result reach a.result) a.taken a.prefixes
+
+abbrev pub wrote_whole : ℕ → Answer → Answer
+wrote_whole written a = answer (wrote_result written a.result) a.taken a.prefixes
 
 -- in numbers, by the position that it was read from
 abbrev pub form_values : ℕ → Read Instruction → Values

@@ -1,8 +1,20 @@
 // The target of a branch.
 ghost use Rattle.std.specs.Prelude.{◌≡◌};
-ghost use Rattle.mrc_line.specs.Target.{target_of};
+ghost use Rattle.mrc_line.specs.Target.{moved_by, target_of};
 
 use mrc_instruction::operand::Displacement;
+
+// An offset and a displacement, by a difference or a sum of u16 that wraps: one of the forms by place, which `wrapping_add_signed` is not.
+fn moved(from: u16, d: i16) -> u16
+    ensures { result ≡ moved_by from d }
+{
+    let size = d.unsigned_abs();
+    if d < 0 {
+        from.wrapping_sub(size)
+    } else {
+        from.wrapping_add(size)
+    }
+}
 
 // The target: start, bytes taken and displacement added, modulo 65,536.
 pub fn target(start: u16, taken: u16, d: Displacement) -> u16
@@ -11,7 +23,7 @@ pub fn target(start: u16, taken: u16, d: Displacement) -> u16
     let next = start.wrapping_add(taken);
     match d {
         Displacement::None => next,
-        Displacement::Byte(b) => next.wrapping_add_signed(b as i16),
-        Displacement::Word(w) => next.wrapping_add_signed(w),
+        Displacement::Byte(b) => moved(next, b as i16),
+        Displacement::Word(w) => moved(next, w),
     }
 }

@@ -28,7 +28,8 @@ pub fn put_byte(buf: &mut [u8], at: usize, b: u8) -> usize
     at + 1
 }
 
-// All the bytes of `src`. (`copy_from_slice` asks first whether the two overlap: five instructions more for each piece.)
+// All the bytes of `src`. (`copy_from_slice` asks first whether the two overlap: five instructions more for each piece. The position
+// that is counted is what is answered.)
 pub fn put_bytes(buf: &mut [u8], at: usize, src: &[u8]) -> usize
     requires { at + length src.now ≤ length buf.old }
     ensures { Put (length src.now) buf.old at src.now buf.new result }
@@ -66,12 +67,12 @@ pub fn put_hex4(buf: &mut [u8], at: usize, w: u16) -> usize
     requires { at + 4 ≤ length buf.old }
     ensures { Put 4 buf.old at (hex4 w) buf.new result }
 {
-    let o = put_hex2(buf, at, (w / 256) as u8);
+    let o = put_hex2(buf, at, (w / 256) as u8); // as the rule has it: by `to_le_bytes` no plainer
     put_hex2(buf, o, (w % 256) as u8)
 }
 
 // At most seven bytes, each as two digits and a space, over a field of blanks. (A known number of blanks is three stores; one that depends on the bytes is
-// a call of `memset`.)
+// a call of `memset`. The pairs stand three apart, as `o` says: over `chunks_mut` each would be put at 0 of a piece, which is no plainer.)
 pub fn put_field(buf: &mut [u8], at: usize, src: &[u8]) -> usize
     requires { (at + field_width ≤ length buf.old) × (length src.now ≤ shown) }
     ensures { Put field_width buf.old at (padded field_width (pairs src.now)) buf.new result }

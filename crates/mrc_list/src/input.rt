@@ -7,7 +7,11 @@ use std::io;
 use std::ops::ControlFlow::{self, Break, Continue};
 
 // Where an image begins: its first byte goes there, and its first line starts there.
-pub const START: usize = 0;
+pub fn start() -> usize
+    ensures { result ≡ 0 }
+{
+    0
+}
 
 // Why an input is no image: it is too long for one, or was not to be read.
 #[derive(Clone, Copy, Debug, PartialEq, Eq)]

@@ -14,7 +14,7 @@ ghost use Rattle.mrc_line.specs.Page.{lines_of, text_of};
 ghost use Rattle.mrc_list.specs.Listing.{text_for, too_long_text};
 ghost use Rattle.std.specs.Io.KnownBytes.{Appends, Keeps};
 
-use crate::input::{NotAnImage, START, after_read, wanted};
+use crate::input::{NotAnImage, after_read, start, wanted};
 use crate::listing::{next_page, too_long};
 use mrc_line::line::OFFSETS;
 use std::io::{self, ErrorKind, Read, Write};
@@ -38,7 +38,7 @@ fn read_input<'a, R: Read>(from: &mut R, room: &'a mut [u8]) -> Result<&'a [u8],
     ensures fits { IfOk result (λ image. length image.now ≤ offsets) }
     ensures bytes { IfSome (R.remaining from.old) (λ xs. MatchResult result (λ image. image.now ≡ xs) (λ e. e ≡ TooLong → offsets < length xs)) }
 {
-    let mut there = START;
+    let mut there = start();
     loop {
         let end = there + wanted(there);
         match after_read(there, from.read(&mut room[there..end])) {
@@ -57,7 +57,7 @@ fn write_listing<W: Write>(to: &mut W, image: &[u8]) -> io::Result<()>
     ensures { OnOk result (Appends (W.contents to.old) (W.contents to.new) (text_of One image.now (lines_of One image.now))) }
 {
     let mut out = [0u8; PAGE_ROOM];
-    let mut at = START;
+    let mut at = start();
     while let Some(page) = next_page(image, at, &mut out) {
         to.write_all(&out[..page.len])?;
         at = page.next;

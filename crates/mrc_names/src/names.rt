@@ -30,7 +30,8 @@ pub fn name(operation: Operation) -> &'static [u8]
 }
 
 // Writes a name at the front of `out`, and answers how many letters it has. Where less is lent than the longest name has, it writes nothing and answers 0.
-// The letters are counted by hand: `copy_from_slice` calls the C library, which takes 46 instructions a line more.
+// The letters are counted by hand: `copy_from_slice` calls the C library, which takes 46 instructions a line more, and
+// of what a loop over a `zip` with `iter_mut` has written, no law of the library tells.
 pub fn write_name(out: &mut [u8], operation: Operation) -> usize
     ensures { (result ≡ letters_written operation out.old) × (out.new ≡ written operation out.old) }
 {
