@@ -29,6 +29,7 @@ fn named_word(named: RegisterOrMemory) -> u64
     }
 }
 
+// (A count below 65,536 is what C's 16 bits for it need; a type of such counts would be made and taken apart here alone.)
 fn modrm_word(refusal: u8, byte: u8, taken: usize, register: u8, written: u8) -> u64
     requires { taken < words }
     ensures { ModrmHeld (modrm_by refusal byte taken register written) result }

@@ -84,7 +84,8 @@ fn overridden(
     }
 }
 
-// The inner answer under an override.
+// The inner answer under an override. (That its counts can grow by one is asked by the three functions here: as an invariant of `Answer` it would be asked of
+// all who make one. The counts of both prefixes are two lines, which a function would not make plainer.)
 fn under_override(prefix: u8, inner: Answer, reading: Reading) -> Answer
     requires { Small inner }
     ensures { result ≡ under_override reading prefix inner }
@@ -124,7 +125,8 @@ fn with_repeat(prefix: u8, inner: Answer) -> Answer
     }
 }
 
-// The inner answer behind a prefix of either kind, told by its byte, which the refusals carry: a case beside the byte would say it twice. It stays a call: what it keeps of the inner answer costs a step that has no prefix nothing.
+// The inner answer behind a prefix of either kind, told by its byte, which the refusals carry: a case beside the byte would say it twice. It stays a call:
+// what it keeps of the inner answer costs a step that has no prefix nothing.
 #[inline(never)]
 pub fn behind_prefix(prefix: u8, inner: Answer, reading: Reading) -> Answer
     requires { Small inner }

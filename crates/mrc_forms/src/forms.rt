@@ -45,7 +45,8 @@ pub fn on_segment(operation: Operation, opcode: u8, at: usize) -> Read<Instructi
     Ok(decoded(operation, operands, at))
 }
 
-// INC, DEC, PUSH and POP of the word register that the low bits of the opcode name.
+// INC, DEC, PUSH and POP of the word register that the low bits of the opcode name. (What it shares with `on_segment` is two lines: one function of the
+// operand for both would be no plainer.)
 pub fn on_register(operation: Operation, opcode: u8, at: usize) -> Read<Instruction>
     ensures { result ≡ read_by opcode (on_register operation (register_of (opcode % 8))) at [] }
 {

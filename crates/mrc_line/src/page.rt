@@ -6,7 +6,8 @@ use crate::roomy::roomy_lines;
 use crate::write::write_short;
 use mrc_instruction::reading::Reading;
 
-// How many bytes were written, and the position at which the next line starts.
+// How many bytes were written, and the position at which the next line starts. (A count and no slice, for C, and for callers who go on with the buffer; a
+// line's answer alike.)
 #[derive(Clone, Copy, Debug, PartialEq, Eq)]
 pub struct Page {
     pub len: usize,
@@ -15,7 +16,8 @@ pub struct Page {
 
 // Writes as many whole lines as fit, from a position of the image on, as the reading has them.
 // (It and `roomy_lines` loop by position, since a line says where the next one starts. One loop over `line`, which refuses at the end, has a second call
-// of the step writer: 26 instructions a line more. The refusal is a case of a `match`, since the proof speaks of it, and a `let` with `else` has no name for it.)
+// of the step writer: 26 instructions a line more. The refusal is a case of a `match`, since the proof speaks of it, and a
+// `let` with `else` has no name for it.)
 pub fn write_page(image: &[u8], at: usize, reading: Reading, out: &mut [u8]) -> Page
     ensures { Paged reading image.now at out.old result out.new }
 {

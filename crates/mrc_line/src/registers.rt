@@ -23,6 +23,7 @@ fn register_name(encoding: RegisterEncoding, size: OperandSize) -> [u8; 2]
     REGISTERS[size as usize][encoding as usize]
 }
 
+// (Four names by one number: as a table they are no plainer.)
 fn segment_name(segment: Segment) -> [u8; 2]
     ensures { result ≡ segment_text segment }
 {
@@ -43,7 +44,7 @@ pub fn put_register(buf: &mut [u8], at: usize, register: SizedRegisterEncoding) 
     put_bytes(buf, at, &name)
 }
 
-// A segment's name.
+// A segment's name. (As a register's, of another table: one function of the two letters would be `put_bytes`.)
 pub fn put_segment(buf: &mut [u8], at: usize, segment: Segment) -> usize
     requires { at + 2 ≤ length buf.old }
     ensures { Put 2 buf.old at (segment_text segment) buf.new result }

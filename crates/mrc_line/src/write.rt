@@ -17,7 +17,8 @@ const BUDGET: u8 = 15;
 
 pub const LONGEST: usize = 93;
 
-// The line of what decodes at a position, put at the start of a buffer that has room for any.
+// The line of what decodes at a position, put at the start of a buffer that has room for any. (That the image is no longer than the offsets, and the position
+// within it, is asked by each function here: `Listed` and `Paged` speak of both, and a type of the two, made in `line` and `write_page`, is no plainer.)
 pub fn write_step(out: &mut [u8], image: &[u8], at: usize, reading: Reading) -> Written
     requires { (longest ≤ length out.old) × (length image.now ≤ offsets) × (at < length image.now) }
     ensures { Listed reading image.now at out.old (Ok result) out.new }
