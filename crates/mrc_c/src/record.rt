@@ -39,7 +39,7 @@ fn repeat_code(repeat: Option<Repeat>) -> u8
     }
 }
 
-// (C's numbers, a line each: they do not go by the order of the cases.)
+// (C's numbers, a line each, so that they hold whatever the order of the cases.)
 fn reach_code(reach: Reach) -> u8
     ensures { result ≡ reach_code reach }
 {

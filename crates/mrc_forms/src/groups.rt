@@ -8,8 +8,8 @@ use mrc_instruction::operand::OperandSize;
 use mrc_instruction::operation::Operation;
 
 // A group goes by its number and not by an enum's case: `immediate_operation`, `sole_operation`, `sole_reach` and the forms on a group promise an answer for
-// every number (docs/PROMISES.md), and an enum would ask more of their callers. The three are a test each, of another group, with another table and another
-// case for the rest, so one function over them would be no plainer.
+// every number (docs/PROMISES.md), and an enum would ask more of their callers. The three are a test each, with another table and another case for the
+// rest, so one function over them would be no plainer.
 // 80 to 83, by reg.
 pub const GROUP_80: u8 = 0x80;
 // C6 and C7: MOV, whatever reg is.

@@ -61,7 +61,7 @@ pub fn put_displacement(buf: &mut [u8], at: usize, displacement: Displacement) -
     }
 }
 
-// Where it is None: in reading 2 the zero bytes that were written. (`written` and `reading` meet in these three calls and have nothing in common but that.)
+// Where it is None: in reading 2 the zero bytes that were written. (`written` and `reading` come this far together and have nothing else in common.)
 fn put_zeros(buf: &mut [u8], at: usize, written: u8, reading: Reading) -> usize
     requires { at + 5 ≤ length buf.old }
     ensures { Put 5 buf.old at (zeros_text reading written) buf.new result }

@@ -16,7 +16,7 @@ fn moved(from: u16, d: i16) -> u16
     }
 }
 
-// The target: start, bytes taken and displacement added, modulo 65,536.
+// The target: start, bytes taken and displacement added, modulo 65,536. (No `Origin`: it does not ask how many displacement bytes were written.)
 pub fn target(start: u16, taken: u16, d: Displacement) -> u16
     ensures { result ≡ target_of start taken d }
 {

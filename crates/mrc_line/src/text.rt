@@ -1,6 +1,7 @@
 // The pieces of a line, written into a buffer. Each writer takes the position to write at and answers the position after what it wrote.
-// (`buf` and `at` are no struct with methods, for speed, measured over a listing: with such a pen behind a `&mut` a line takes 22 in 100 instructions
-// more, since each byte stored is followed by loads of the pen, and with one handed on by value 1 in 100 more.)
+// (`buf` and `at` are no struct with methods: with such a pen behind a `&mut` a line takes 22 in 100 instructions more, since each byte stored is followed by
+// loads of the pen; one handed on by value is taken and answered by each writer as `at` is, takes 1 in 100 more, and is no plainer. Nor is what is printed a
+// `Display`, which hands on no position and could not meet `Put`.)
 ghost use Rattle.std.specs.Prelude.{◌≡◌, ◌+◌, ◌<◌, ◌≤◌, [], ◌∷◌, length, replicate};
 ghost use Rattle.mrc_line.specs.Text.{Put, digit_of, hex2, hex4, pairs, padded, shown, field_width};
 
@@ -11,7 +12,7 @@ const FIELD: usize = 21;
 
 const DIGITS: [u8; 16] = *b"0123456789ABCDEF";
 
-// The digit of a number below 16.
+// The digit of a number below 16, which the library has in no method.
 fn digit(n: u8) -> u8
     requires { n < 16 }
     ensures { result ≡ digit_of n }
