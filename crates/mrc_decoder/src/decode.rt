@@ -157,8 +157,7 @@ fn past(len: usize, at: usize) -> Answer
 }
 
 // The instruction at a position, or why there is none. Each prefix byte lowers the budget by one, and wraps what the bytes behind it come to.
-// Each arm returns its answer itself, and the one behind a prefix has a name first: a step takes 7 instructions more where the match has the answers as its
-// value, and 24 more where the call behind a prefix is returned as it is.
+// Each arm returns its answer itself: a step takes 7 instructions more where the match has the answers as its value.
 pub fn decode_instruction(s: &[u8], at: usize, budget: u8, reading: Reading) -> Answer
     ensures { result ≡ decode_at reading s.now at budget }
 {
@@ -172,8 +171,8 @@ pub fn decode_instruction(s: &[u8], at: usize, budget: u8, reading: Reading) -> 
             if budget == 0 {
                 return too_many(byte);
             }
-            let inner = decode_instruction(s, next, budget - 1, reading);
-            let answer = behind_prefix(byte, inner, reading);
+            let mut answer = decode_instruction(s, next, budget - 1, reading);
+            behind_prefix(byte, &mut answer, reading);
             return answer;
         }
         Form::Invalid => return answered(at, invalid(byte, next)),

@@ -84,21 +84,18 @@ fn overridden(
     }
 }
 
-// The inner answer under an override. (That its counts can grow by one is asked by the three functions here: as an invariant of `Answer` it would be asked of
-// all who make one. The counts of both prefixes are two lines, which a function would not make plainer.)
-fn under_override(prefix: u8, inner: Answer, reading: Reading) -> Answer
-    requires { Small inner }
-    ensures { result ≡ under_override reading prefix inner }
+// The inner answer under an override, in its place. (That its counts can grow by one is asked by the three functions here: as an invariant of `Answer` it would
+// be asked of all who make one. The counts of both prefixes are two lines, which a function would not make plainer.)
+fn under_override(prefix: u8, answer: &mut Answer, reading: Reading)
+    requires { Small answer.old }
+    ensures { answer.new ≡ under_override reading prefix answer.old }
 {
-    let result = match inner.result {
-        Ok(instruction) => overridden(prefix, instruction, reading),
-        Err(refusal) => Err(refusal_under(prefix, refusal)),
-    };
-    Answer {
-        result,
-        taken: inner.taken + 1,
-        prefixes: inner.prefixes + 1,
+    match answer.result {
+        Ok(instruction) => answer.result = overridden(prefix, instruction, reading),
+        Err(refusal) => answer.result = Err(refusal_under(prefix, refusal)),
     }
+    answer.taken += 1;
+    answer.prefixes += 1;
 }
 
 // The repeat that a prefix names.
@@ -112,28 +109,30 @@ fn repeat_of(prefix: u8) -> Repeat
     }
 }
 
-// The inner answer under a repeat, which replaces a later one.
-fn with_repeat(prefix: u8, inner: Answer) -> Answer
-    requires { Small inner }
-    ensures { result ≡ with_repeat (repeat_of (Some prefix)) inner }
+// The inner answer under a repeat, which replaces a later one, in its place.
+fn with_repeat(prefix: u8, answer: &mut Answer)
+    requires { Small answer.old }
+    ensures { answer.new ≡ with_repeat (repeat_of (Some prefix)) answer.old }
 {
     let repeat = Some(repeat_of(prefix));
-    Answer {
-        result: inner.result.map(|instruction| instruction.repeated(repeat)),
-        taken: inner.taken + 1,
-        prefixes: inner.prefixes + 1,
+    if let Ok(instruction) = answer.result {
+        answer.result = Ok(instruction.repeated(repeat));
     }
+    answer.taken += 1;
+    answer.prefixes += 1;
 }
 
 // The inner answer behind a prefix of either kind, told by its byte, which the refusals carry: a case beside the byte would say it twice. It stays a call:
-// what it keeps of the inner answer costs a step that has no prefix nothing.
+// what it keeps of the inner answer costs a step that has no prefix nothing. It changes the answer where it lies, and each case by itself: one handed on by
+// value, or put together behind the cases, is copied field by field, 50 to 70 instructions a prefix.
 #[inline(never)]
-pub fn behind_prefix(prefix: u8, inner: Answer, reading: Reading) -> Answer
-    requires { Small inner }
-    ensures { result ≡ behind_prefix reading prefix inner }
+pub fn behind_prefix(prefix: u8, answer: &mut Answer, reading: Reading)
+    requires { Small answer.old }
+    ensures { answer.new ≡ behind_prefix reading prefix answer.old }
 {
     if prefix < 0xF0 {
-        return under_override(prefix, inner, reading);
+        under_override(prefix, answer, reading);
+    } else {
+        with_repeat(prefix, answer);
     }
-    with_repeat(prefix, inner)
 }

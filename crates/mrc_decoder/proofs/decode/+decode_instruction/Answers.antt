@@ -11,17 +11,17 @@ use Rattle.mrc_decoder.proofs.Reaching.{row_reached, immediate_reached, displace
 use Rattle.mrc_decoder.proofs.Decoding.{alone_anywhere, direct_alike, ends_behind, no_prefix, override, repeat, small}
 use Rattle.mrc_decoder.proofs.decode.+decode_instruction.Goals as goal
 
-pub behind_prefix-answer-requires : goal.behind_prefix-answer-requires
-behind_prefix-answer-requires t c =
-    small c.args.reading c.args.s.now (c.args.at + 1) (c.args.budget - 1) (omega arith) (omega arith) c.decode_instruction-inner.ensures
+pub behind_prefix-requires : goal.behind_prefix-requires
+behind_prefix-requires t c =
+    small c.args.reading c.args.s.now (c.args.at + 1) (c.args.budget - 1) (omega arith) (omega arith) c.decode_instruction-answer.ensures
 
 pub returns-in-Override : goal.returns-in-Override
 returns-in-Override t c =
     let s = c.args.s.now in
     let Means = λ (f : Form). meant f (get_or s c.args.at 0) ≡ meaning_of c.args.reading (get_or s c.args.at 0) in
     ⊎_elim
-    (λ q. override c.args.reading s c.args.at c.args.budget c.if-s-at.false (subst Means q c.form_of.ensures) c.if-budget-eq0.false c.decode_instruction-inner.ensures c.behind_prefix-answer.ensures)
-    (λ q. repeat c.args.reading s c.args.at c.args.budget c.if-s-at.false (subst Means q c.form_of.ensures) c.if-budget-eq0.false c.decode_instruction-inner.ensures c.behind_prefix-answer.ensures)
+    (λ q. override c.args.reading s c.args.at c.args.budget c.if-s-at.false (subst Means q c.form_of.ensures) c.if-budget-eq0.false c.decode_instruction-answer.ensures c.behind_prefix.ensures)
+    (λ q. repeat c.args.reading s c.args.at c.args.budget c.if-s-at.false (subst Means q c.form_of.ensures) c.if-budget-eq0.false c.decode_instruction-answer.ensures c.behind_prefix.ensures)
     c.in-Override.is
 
 pub returns-in-OnImmediate : goal.returns-in-OnImmediate
