@@ -2,7 +2,7 @@
 ghost use Rattle.std.specs.Prelude.{◌≡◌, ◌-◌, length};
 ghost use Rattle.std.specs.Iterator.{at_most};
 
-use crate::hex::{byte, read_bytes};
+use crate::hex::{byte, read_bytes, split_byte};
 use mrc_c::decode::mrc_decode;
 
 // The most bytes of one input.
@@ -58,12 +58,20 @@ impl Line<'_> {
         self.has(&record)
     }
 
-    // Whether a record's first four words are the line's, each with its lowest byte first, and there is no third operand.
+    // Whether a record's first four words are the line's, each with its lowest byte first, and there is no third operand. A byte is read when it is compared:
+    // most lines that differ do so in the first few.
     fn has(self, record: &[u64; 5]) -> bool {
-        let mut words = [0u8; 32];
-        read_bytes(behind(self.stored, RECORD), &mut words);
-        let bytes = record[..4].iter().flat_map(|word| word.to_le_bytes());
-        record[4] == 0 && bytes.eq(words)
+        let mut digits = behind(self.stored, RECORD);
+        for word in &record[..4] {
+            for own in word.to_le_bytes() {
+                let (stored, rest) = split_byte(digits);
+                if stored != own {
+                    return false;
+                }
+                digits = rest;
+            }
+        }
+        record[4] == 0
     }
 }
 

@@ -1,5 +1,5 @@
 // The room for the stored answers.
-ghost use Rattle.std.specs.Prelude.{◌≡◌, length};
+ghost use Rattle.std.specs.Prelude.{◌≡◌, ◌≤◌, length};
 
 use std::io::Read;
 
@@ -15,7 +15,9 @@ pub fn empty_room<const N: usize>() -> [u8; N]
 
 // Reads until the room is full, the input ends or a read fails, and answers what was read. The loop is written out, since the library's `read_to_end` reads
 // into memory of the heap.
-pub fn read_full<'a>(from: &mut impl Read, room: &'a mut [u8]) -> &'a [u8] {
+pub fn read_full<'a>(from: &mut impl Read, room: &'a mut [u8]) -> &'a [u8]
+    ensures { length result.now ≤ length room.old }
+{
     let mut there = 0;
     while let Ok(more @ 1..) = from.read(&mut room[there..]) {
         there += more;
