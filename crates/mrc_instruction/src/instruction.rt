@@ -29,15 +29,16 @@ pub enum Reach {
     Far,
 }
 
-// What is a byte or two stands first, but for the last two, which few instructions have: in an answer each operand then begins a machine word.
+// What is a byte or two stands first, but for the last: each operand is then one of the pieces of eight bytes in which an instruction is copied, and is loaded
+// as it was stored.
 #[derive(Clone, Copy, Debug, PartialEq, Eq)]
 pub struct Instruction {
     pub reach: Reach,
     pub repeat: Option<Repeat>,
     pub operation: Operation,
-    pub operands: OperandSet,
     // The segment of the override before an operation which reads memory that no operand names.
     pub kept: Option<Segment>,
+    pub operands: OperandSet,
     // The displacement bytes behind its ModRM: 0, 1 or 2.
     pub written: u8,
 }
@@ -51,8 +52,8 @@ impl Instruction {
             reach: Reach::Neither,
             repeat: None,
             operation,
-            operands,
             kept: None,
+            operands,
             written: 0,
         }
     }
