@@ -53,33 +53,34 @@ fn keeps(operation: Operation, reading: Reading) -> bool
     }
 }
 
-// An instruction under an override: each operand in its segment; where there is none the override is kept, or refused.
+// Puts the instruction under an override in a place: each operand in its segment; where there is none the override is kept, or refused.
 fn overridden(
     prefix: u8,
     instruction: Instruction,
     reading: Reading,
-) -> Result<Instruction, Refusal>
-    ensures { result ≡ overridden reading prefix instruction }
+    place: &mut Result<Instruction, Refusal>,
+)
+    ensures { place.new ≡ overridden reading prefix instruction }
 {
     let segment = Segment::from_low_bits(prefix / 8);
     match instruction.operands {
         OperandSet::None => {
             if keeps(instruction.operation, reading) {
-                Ok(instruction.keeping(segment))
+                *place = Ok(instruction.keeping(segment));
             } else {
-                Err(Refusal::InvalidPrefix(prefix))
+                *place = Err(Refusal::InvalidPrefix(prefix));
             }
         }
         OperandSet::Destination(destination) => {
             let operands = OperandSet::Destination(override_segment(destination, segment));
-            Ok(instruction.on(operands))
+            *place = Ok(instruction.on(operands));
         }
         OperandSet::DestinationAndSource(destination, source) => {
             let operands = OperandSet::DestinationAndSource(
                 override_segment(destination, segment),
                 override_segment(source, segment),
             );
-            Ok(instruction.on(operands))
+            *place = Ok(instruction.on(operands));
         }
     }
 }
@@ -91,7 +92,7 @@ fn under_override(prefix: u8, answer: &mut Answer, reading: Reading)
     ensures { answer.new ≡ under_override reading prefix answer.old }
 {
     match answer.result {
-        Ok(instruction) => answer.result = overridden(prefix, instruction, reading),
+        Ok(instruction) => overridden(prefix, instruction, reading, &mut answer.result),
         Err(refusal) => answer.result = Err(refusal_under(prefix, refusal)),
     }
     answer.taken += 1;
@@ -122,9 +123,9 @@ fn with_repeat(prefix: u8, answer: &mut Answer)
     answer.prefixes += 1;
 }
 
-// The inner answer behind a prefix of either kind, told by its byte, which the refusals carry: a case beside the byte would say it twice. It stays a call:
-// what it keeps of the inner answer costs a step that has no prefix nothing. It changes the answer where it lies, and each case by itself: one handed on by
-// value, or put together behind the cases, is copied field by field, 50 to 70 instructions a prefix.
+// The inner answer behind a prefix of either kind, told by its byte, which the refusals carry: a case beside the byte would say it twice. It stays a call: built
+// into the decoder it costs a step that has no prefix. It changes the answer where it lies, and each case by itself: one handed on by value, or put together
+// behind the cases, is copied field by field, 50 to 70 instructions a prefix.
 #[inline(never)]
 pub fn behind_prefix(prefix: u8, answer: &mut Answer, reading: Reading)
     requires { Small answer.old }
