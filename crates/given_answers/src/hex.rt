@@ -23,11 +23,3 @@ pub fn read_bytes(digits: &[u8], bytes: &mut [u8]) {
         *place = byte(pair);
     }
 }
-
-// The same byte, and the digits behind its own.
-pub fn split_byte(digits: &[u8]) -> (u8, &[u8]) {
-    match digits {
-        [high, low, rest @ ..] => (digit(*high) * 16 + digit(*low), rest),
-        _ => (byte(digits), &[]),
-    }
-}

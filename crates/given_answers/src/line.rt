@@ -2,7 +2,7 @@
 ghost use Rattle.std.specs.Prelude.{◌≡◌, ◌-◌, length};
 ghost use Rattle.std.specs.Iterator.{at_most};
 
-use crate::hex::{byte, read_bytes, split_byte};
+use crate::hex::{byte, read_bytes};
 use mrc_c::decode::mrc_decode;
 
 // The most bytes of one input.
@@ -25,6 +25,16 @@ fn behind(s: &[u8], at: usize) -> &[u8]
     ensures { length result.now ≡ length s.now - at }
 {
     s.get(at..).unwrap_or(&[])
+}
+
+// The byte whose digits stand first, and the digits behind them.
+fn first_byte(digits: &[u8]) -> (u8, &[u8])
+    ensures { length result.1.now ≡ length digits.now - 2 }
+{
+    match digits {
+        [high, low, rest @ ..] => (byte(&[*high, *low]), rest),
+        _ => (byte(digits), &[]),
+    }
 }
 
 // A line, without its LF; and all that is stored from its start on, where a field is looked for that the line is too short for.
@@ -64,7 +74,7 @@ impl Line<'_> {
         let mut digits = behind(self.stored, RECORD);
         for word in &record[..4] {
             for own in word.to_le_bytes() {
-                let (stored, rest) = split_byte(digits);
+                let (stored, rest) = first_byte(digits);
                 if stored != own {
                     return false;
                 }
