@@ -68,8 +68,8 @@ impl Line<'_> {
         self.has(&record)
     }
 
-    // Whether a record's first four words are the line's, each with its lowest byte first, and there is no third operand. A byte is read when it is compared:
-    // most lines that differ do so in the first few.
+    // Whether a record's first four words are the line's, each with its lowest byte first, and there is no third operand. A byte is read when it is compared,
+    // so a line that differs is read no further.
     fn has(self, record: &[u64; 5]) -> bool {
         let mut digits = behind(self.stored, RECORD);
         for word in &record[..4] {
