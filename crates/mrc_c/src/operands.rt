@@ -18,6 +18,8 @@ pub fn fields_word(kind: u8, named: u8, mode: u8, size: u8, value: u16, far_segm
         + FROM_6 * (far_segment as u64)
 }
 
+// (Built into its caller, as that is into its own.)
+#[inline(always)]
 fn indirect_word(
     segment: Segment,
     mode: AddressingMode,
@@ -55,6 +57,8 @@ fn displacement_word(value: Displacement) -> u64
     }
 }
 
+// It is built into its callers: a call reads the operand from memory, into which it has just been copied in other pieces.
+#[inline(always)]
 pub fn operand_word(operand: Operand) -> u64
     ensures { OperandHeld (operand_fields operand) result }
 {

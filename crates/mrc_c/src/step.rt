@@ -18,11 +18,9 @@ pub fn mrc_step(s: &[u8], at: usize, budget: u8, reading: u8) -> u64
         taken,
         prefixes,
     } = decode_instruction(s, at, budget, reading_of(reading));
-    let number = match result {
-        Ok(_) => 0,
-        Err(refusal) => refusal.number(),
-    };
-    ((taken % WORDS) as u64)
-        + (WORDS as u64) * ((prefixes % WORDS) as u64)
-        + (DOUBLE_WORDS as u64) * u64::from(number)
+    let counts = ((taken % WORDS) as u64) + (WORDS as u64) * ((prefixes % WORDS) as u64);
+    match result {
+        Ok(_) => return counts,
+        Err(refusal) => return counts + (DOUBLE_WORDS as u64) * u64::from(refusal.number()),
+    }
 }

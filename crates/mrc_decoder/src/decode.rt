@@ -31,17 +31,17 @@ use mrc_instruction::read::Read;
 use mrc_instruction::reading::Reading;
 use mrc_rules::Answer;
 
-// A form that is its opcode alone, with the position behind it.
+// A form that is its opcode alone, with the position behind it. Each arm returns what it reads by itself, here and behind a ModRM, as in `decode_instruction`.
 fn opcode_alone(form: OpcodeAlone, opcode: u8, at: usize) -> Read<Instruction>
     ensures { result ≡ read_by opcode (alone_row form opcode) at [] }
 {
     match form {
-        OpcodeAlone::Bare(operation) => bare(operation, at),
-        OpcodeAlone::Return(reach) => reaching(reach, bare(Operation::RET, at)),
-        OpcodeAlone::OnSegment(operation) => on_segment(operation, opcode, at),
-        OpcodeAlone::Exchange => exchange(opcode, at),
-        OpcodeAlone::InDx => in_dx(opcode, at),
-        OpcodeAlone::OutDx => out_dx(opcode, at),
+        OpcodeAlone::Bare(operation) => return bare(operation, at),
+        OpcodeAlone::Return(reach) => return reaching(reach, bare(Operation::RET, at)),
+        OpcodeAlone::OnSegment(operation) => return on_segment(operation, opcode, at),
+        OpcodeAlone::Exchange => return exchange(opcode, at),
+        OpcodeAlone::InDx => return in_dx(opcode, at),
+        OpcodeAlone::OutDx => return out_dx(opcode, at),
     }
 }
 
@@ -57,40 +57,42 @@ fn behind_modrm(
     ensures { result ≡ read_behind_in reading (modrm_form form) size modrm.operand modrm.byte next (drop next s.now) }
 {
     match form {
-        WithModRM::Pop => pop(modrm, next),
-        WithModRM::OnRegisterOrMemory(group) => on_register_or_memory(group, size, modrm, next),
-        WithModRM::GroupF6 => group_f6(size, modrm, s, next),
-        WithModRM::RmReg(operation) => register_or_memory_and_register(
+        WithModRM::Pop => return pop(modrm, next),
+        WithModRM::OnRegisterOrMemory(group) => {
+            return on_register_or_memory(group, size, modrm, next);
+        }
+        WithModRM::GroupF6 => return group_f6(size, modrm, s, next),
+        WithModRM::RmReg(operation) => return register_or_memory_and_register(
             operation,
             Direction::RegMemFirst, // rm,reg
             size,
             modrm,
             next,
         ),
-        WithModRM::RegRm(operation) => register_or_memory_and_register(
+        WithModRM::RegRm(operation) => return register_or_memory_and_register(
             operation,
             Direction::RegFirst, // reg,rm
             size,
             modrm,
             next,
         ),
-        WithModRM::RmSegment => register_or_memory_and_segment(
+        WithModRM::RmSegment => return register_or_memory_and_segment(
             Direction::RegMemFirst, // rm,segment
             modrm,
             next,
         ),
-        WithModRM::SegmentRm => register_or_memory_and_segment(
+        WithModRM::SegmentRm => return register_or_memory_and_segment(
             Direction::RegFirst, // segment,rm
             modrm,
             next,
         ),
         WithModRM::ImmediateToRegisterOrMemory(group) => {
-            immediate_to_register_or_memory(group, size, modrm, s, next)
+            return immediate_to_register_or_memory(group, size, modrm, s, next);
         }
-        WithModRM::Group83 => group_83(modrm, s, next, reading),
-        WithModRM::ShiftByImmediate => shift_by_immediate(modrm, s, next),
-        WithModRM::ShiftByOne => shift_by_one(modrm, next),
-        WithModRM::ShiftByCl => shift_by_cl(size, modrm, next, reading),
+        WithModRM::Group83 => return group_83(modrm, s, next, reading),
+        WithModRM::ShiftByImmediate => return shift_by_immediate(modrm, s, next),
+        WithModRM::ShiftByOne => return shift_by_one(modrm, next),
+        WithModRM::ShiftByCl => return shift_by_cl(size, modrm, next, reading),
     }
 }
 

@@ -25,6 +25,7 @@ pub enum Direction {
 }
 
 // x x x x x x d w | mod reg r/m
+// Each order returns by itself, here and with a segment: operands that are the match's value are put together field by field in every step.
 pub fn register_or_memory_and_register(
     operation: Operation,
     direction: Direction,
@@ -36,11 +37,16 @@ pub fn register_or_memory_and_register(
 {
     let register = RegisterEncoding::from_low_bits(reg_mem.byte / 8);
     let reg = Operand::Register(SizedRegisterEncoding(register, size));
-    let operands = match direction {
-        Direction::RegFirst => OperandSet::DestinationAndSource(reg, reg_mem.operand),
-        Direction::RegMemFirst => OperandSet::DestinationAndSource(reg_mem.operand, reg),
-    };
-    Ok(decoded(operation, operands, at))
+    match direction {
+        Direction::RegFirst => {
+            let operands = OperandSet::DestinationAndSource(reg, reg_mem.operand);
+            return Ok(decoded(operation, operands, at));
+        }
+        Direction::RegMemFirst => {
+            let operands = OperandSet::DestinationAndSource(reg_mem.operand, reg);
+            return Ok(decoded(operation, operands, at));
+        }
+    }
 }
 
 // 1 0 0 0 1 1 d 0 | mod reg r/m
@@ -54,11 +60,16 @@ pub fn register_or_memory_and_segment(
     let named = Segment::try_from(reg_field(reg_mem.byte));
     let segment = named.map_err(|refusal| Stop { refusal, taken: at })?;
     let seg = Operand::Segment(segment);
-    let operands = match direction {
-        Direction::RegFirst => OperandSet::DestinationAndSource(seg, reg_mem.operand),
-        Direction::RegMemFirst => OperandSet::DestinationAndSource(reg_mem.operand, seg),
-    };
-    Ok(decoded(Operation::MOV, operands, at))
+    match direction {
+        Direction::RegFirst => {
+            let operands = OperandSet::DestinationAndSource(seg, reg_mem.operand);
+            return Ok(decoded(Operation::MOV, operands, at));
+        }
+        Direction::RegMemFirst => {
+            let operands = OperandSet::DestinationAndSource(reg_mem.operand, seg);
+            return Ok(decoded(Operation::MOV, operands, at));
+        }
+    }
 }
 
 // x x x x x x x w | mod reg r/m | data | data if w = 1
